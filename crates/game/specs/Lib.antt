@@ -1,0 +1,4 @@
+pub mod Tree
+pub mod Declines
+pub mod Rules
+pub mod Paths

@@ -1,0 +1,7 @@
+// What the side to move may do.
+#[derive(Clone, Copy)]
+pub enum Turn {
+    Place,
+    Pass,
+    Ended,
+}

@@ -1,0 +1,9 @@
+pub mod Laws
+pub mod Numbers
+pub mod Taking
+pub mod Frames
+pub mod Trials
+pub mod Courses
+pub mod Deciding
+pub mod Evaluating
+pub mod Worked

@@ -1,0 +1,5 @@
+pub mod Run
+pub mod Trial
+pub mod Claims
+pub mod Calls
+pub mod Examples

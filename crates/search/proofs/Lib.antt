@@ -1,0 +1,5 @@
+pub mod Meeting
+pub mod Moves
+pub mod Backs
+pub mod Turns
+pub mod Steps

@@ -1,0 +1,5 @@
+pub mod Backs
+pub mod Plain
+pub mod Search
+pub mod Machine
+pub mod Finishes

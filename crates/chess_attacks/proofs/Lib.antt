@@ -1,0 +1,12 @@
+pub mod Sides
+pub mod Back
+pub mod Onward
+pub mod Runs
+pub mod Sights
+pub mod Walks
+pub mod LeapTable
+pub mod Reach
+pub mod Ways
+pub mod Members
+pub mod Attackers
+pub mod Meaning

@@ -1,0 +1,22 @@
+mod attack;
+mod commands;
+mod look;
+mod men;
+
+pub use attack::attacked;
+pub use attack::in_check;
+pub use commands::commanded;
+pub use commands::line;
+pub use commands::man_on;
+pub use look::beside;
+pub use men::Board;
+pub use men::Kind;
+pub use men::KindDebug;
+pub use men::KindPartialEq;
+pub use men::Man;
+pub use men::ManDebug;
+pub use men::ManPartialEq;
+pub use men::Side;
+pub use men::SideDebug;
+pub use men::SidePartialEq;
+pub use men::holds;

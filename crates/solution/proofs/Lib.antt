@@ -1,0 +1,4 @@
+pub mod Pages
+pub mod Attempts
+pub mod Following
+pub mod Shown

@@ -1,0 +1,10 @@
+pub mod Clash
+pub mod Texts
+pub mod Choice
+pub mod Reached
+pub mod Wins
+pub mod Right
+pub mod Spent
+pub mod Agree
+pub mod Ends
+pub mod Fitting

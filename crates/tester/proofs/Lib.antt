@@ -1,0 +1,4 @@
+pub mod Lists
+pub mod Single
+pub mod Doing
+pub mod Performing

@@ -1,3 +1,5 @@
+#![tactic(auto)]
+
 mod direction;
 mod edge;
 mod places;

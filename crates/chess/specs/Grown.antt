@@ -1,7 +1,7 @@
 -- The tree of a position by its moves.
 use Rattle.std.specs.Prelude.{◌≡◌, ℕ, zero, suc, ◌-◌, ◌<◌, ◌≤◌, Bool, true, false, not, List, [], ◌∷◌, map, length, get_or, Some, None, Option, ◌==◌, ◌≢◌, slice_index_or, refl}
 use Rattle.std.proofs.Common.{sym, ap, ◌∙◌, subst, arith}
-use Rattle.std.specs.List.{ContainsAt as Has, AllByRecursion as All, slice_get}
+use Rattle.std.specs.List.{ContainsAt as Has, AllByRecursion, slice_get}
 use Rattle.std.proofs.ByRecursion.{All-get_or, All-weaker, all_has_itself}
 use Rattle.std.proofs.lemmas.List.{length-map, get_or-map}
 use Rattle.std.proofs.lemmas.Bool.Decides.{nat_tests}
@@ -74,7 +74,7 @@ pub choices_left : (n : ℕ) (d : Diagram) → (n ≢ 0) → choices n d ≡ leg
 choices_left zero d h = absurd (h refl)
 choices_left (suc n) d h = refl
 
-pub choices_keep : (n : ℕ) (d : Diagram) → Lawful d → All (λ v. Lawful (played d v)) (choices n d)
+pub choices_keep : (n : ℕ) (d : Diagram) → Lawful d → AllByRecursion (λ v. Lawful (played d v)) (choices n d)
 choices_keep zero d k = tt
 choices_keep (suc n) d k =
     All-weaker (Has (legal_moves d)) (λ v. Lawful (played d v)) (λ v h. moves-keep d k v ((lists d).sound v h)) (legal_moves d) (all_has_itself (legal_moves d))

@@ -2,7 +2,7 @@
 use Rattle.std.specs.Prelude.{◌≡◌, ℕ, zero, suc, ◌-◌, ◌*◌, ◌^◌, ◌<◌, ◌≤◌, Bool, true, false, cond, not, ◌&&◌, List, [], ◌∷◌, map, length, Ok, Err, Result, ◌≢◌, nat_le, slice_index_or}
 use Rattle.std.proofs.Math.Path.{refl}
 use Rattle.std.proofs.Common.{sym, ap, ◌∙◌, subst, arith}
-use Rattle.std.specs.List.{AllByRecursion as All}
+use Rattle.std.specs.List.{AllByRecursion}
 use Rattle.std.proofs.ByRecursion.{All-map, All-weaker}
 use Rattle.std.proofs.lemmas.Bool.{false≢true, leb-true, and_parts}
 use Rattle.form.specs.Forms.{reading}
@@ -33,7 +33,7 @@ use Rattle.chess.specs.Distinct.{distinct_texts}
 use Rattle.chess.specs.First.{first_lawful}
 use Rattle.chess.specs.Grown.{rank_is, state_is, code_is, next_is, words_is, count_is, grow, choices_keep}
 
-all_each : {X : Type 0} (P : X → Type 0) → ((x : X) → P x) → (xs : List X) → All P xs
+all_each : {X : Type 0} (P : X → Type 0) → ((x : X) → P x) → (xs : List X) → AllByRecursion P xs
 all_each P f [] = tt
 all_each P f (x ∷ xs) = (f x, all_each P f xs)
 
@@ -51,17 +51,17 @@ module _ (a : Side) (n : ℕ) (d : Diagram) (few : n ≤ 13) (law : Lawful d) wh
   grown : (v : Move) → Lawful (played d v) → IsTree (grow a n d v)
   grown v k = record { attacker = a; plies = n - 1; diagram = played d v; few = omega arith; lawful = k; is = refl }
 
-  closed : All IsTree (next (tree a n d))
-  closed = subst (All IsTree) (sym (next_is a n d)) (All-map IsTree (grow a n d) (choices n d) (All-weaker (λ v. Lawful (played d v)) _ grown (choices n d) (choices_keep n d law)))
+  closed : AllByRecursion IsTree (next (tree a n d))
+  closed = subst (AllByRecursion IsTree) (sym (next_is a n d)) (All-map IsTree (grow a n d) (choices n d) (All-weaker (λ v. Lawful (played d v)) _ grown (choices n d) (choices_keep n d law)))
 
-  falls_all : (m : ℕ) → m ≡ n → All (λ v. rank (grow a n d v) < n) (choices m d)
+  falls_all : (m : ℕ) → m ≡ n → AllByRecursion (λ v. rank (grow a n d v) < n) (choices m d)
   falls_all zero e = tt
   falls_all (suc m) e = all_each (λ v. rank (grow a n d v) < n) (λ v. omega (arith, rank_is a (n - 1) (played d v))) (legal_moves d)
 
-  falls : All (λ u. rank u < rank (tree a n d)) (next (tree a n d))
+  falls : AllByRecursion (λ u. rank u < rank (tree a n d)) (next (tree a n d))
   falls =
-      subst (λ (r : ℕ). All (λ u. rank u < r) (next (tree a n d))) (sym (rank_is a n d))
-      (subst (All (λ u. rank u < n)) (sym (next_is a n d)) (All-map (λ u. rank u < n) (grow a n d) (choices n d) (falls_all n refl)))
+      subst (λ (r : ℕ). AllByRecursion (λ u. rank u < r) (next (tree a n d))) (sym (rank_is a n d))
+      (subst (AllByRecursion (λ u. rank u < n)) (sym (next_is a n d)) (All-map (λ u. rank u < n) (grow a n d) (choices n d) (falls_all n refl)))
 
   narrow_by : (m : ℕ) → length (choices m d) ≤ 415
   narrow_by zero = omega arith
@@ -106,8 +106,8 @@ module _ (a : Side) (n : ℕ) (d : Diagram) (few : n ≤ 13) (law : Lawful d) wh
       let r = alive_at n (sym (ap ended (state_is a n d)) ∙ h) in
       (omega (arith, r.0, count_is a n d), omega (arith, r.1, rank_is a n d))
 
-  five : All (λ x. length x ≡ 5) (words (tree a n d))
-  five = subst (All (λ x. length x ≡ 5)) (sym (words_is a n d)) (All-map (λ x. length x ≡ 5) text_of (choices n d) (all_each (λ v. length (text_of v) ≡ 5) (λ v. refl) (choices n d)))
+  five : AllByRecursion (λ x. length x ≡ 5) (words (tree a n d))
+  five = subst (AllByRecursion (λ x. length x ≡ 5)) (sym (words_is a n d)) (All-map (λ x. length x ≡ 5) text_of (choices n d) (all_each (λ v. length (text_of v) ≡ 5) (λ v. refl) (choices n d)))
 
 ordered : (n : ℕ) (d : Diagram) → Ordered (choices n d)
 ordered zero d = tt
@@ -132,9 +132,9 @@ same_tree t u x y e =
 rest_small : (a : Side) (n : ℕ) (d : Diagram) → n ≤ 13 → coding.rest a n d < 2 ^ 64
 rest_small a n d h = omega (arith, side_small a, side_small d.mover, passing_small d.passing)
 
-coded : (a : Side) (n : ℕ) (d : Diagram) → n ≤ 13 → Lawful d → (length (code (tree a n d)) ≡ 5) × All (λ w. w < 2 ^ 64) (code (tree a n d))
+coded : (a : Side) (n : ℕ) (d : Diagram) → n ≤ 13 → Lawful d → (length (code (tree a n d)) ≡ 5) × AllByRecursion (λ w. w < 2 ^ 64) (code (tree a n d))
 coded a n d h k =
-    subst (λ (c : List ℕ). (length c ≡ 5) × All (λ w. w < 2 ^ 64) c) (sym (code_is a n d)) (
+    subst (λ (c : List ℕ). (length c ≡ 5) × AllByRecursion (λ w. w < 2 ^ 64) c) (sym (code_is a n d)) (
       refl,
       (
         word_small d.board 0 16,
@@ -211,17 +211,17 @@ chess_rules_hold = record {
   opens = attacking 1 two_kings;
   reads = λ x aim t e. (set_given x aim t e).is_tree;
   attacks = λ x aim t e. (set_given x aim t e).not_theirs;
-  closed = each (λ t. All IsTree (next t)) closed;
+  closed = each (λ t. AllByRecursion IsTree (next t)) closed;
   over = each (λ t. ended (state t) ≡ true → length (next t) ≡ 0) over;
   alive = each (λ t. ended (state t) ≡ false → 0 < length (next t)) (λ a n d few law h. (alive a n d few law h).0);
   narrow = each (λ t. length (next t) ≤ 415) narrow;
   shallow = each (λ t. rank t ≤ 13) shallow;
   ranked = each (λ t. ended (state t) ≡ false → 0 < rank t) (λ a n d few law h. (alive a n d few law h).1);
-  falls = each (λ t. All (λ u. rank u < rank t) (next t)) falls;
+  falls = each (λ t. AllByRecursion (λ u. rank u < rank t) (next t)) falls;
   low = omega arith;
   small = omega arith;
-  five = each (λ t. All (λ x. length x ≡ 5) (words t)) five;
+  five = each (λ t. AllByRecursion (λ x. length x ≡ 5) (words t)) five;
   distinct = each (λ t. (i j : ℕ) → i < length (words t) → j < length (words t) → slice_index_or (words t) i [] ≡ slice_index_or (words t) j [] → i ≡ j) (λ a n d _ _. distinct a n d);
-  coded = each (λ t. (length (code t) ≡ 5) × All (λ w. w < 2 ^ 64) (code t)) coded;
+  coded = each (λ t. (length (code t) ≡ 5) × AllByRecursion (λ w. w < 2 ^ 64) (code t)) coded;
   codes = λ t u x y e. alike t u (same_tree t u x y e);
 }

@@ -1,3 +1,5 @@
+#![tactic(auto)]
+
 ghost use Rattle.chess.specs.Worked.{Worked};
 
 mod chess_game;

@@ -1,3 +1,5 @@
+#![tactic(auto)]
+
 mod attack;
 mod commands;
 mod look;

@@ -1,6 +1,6 @@
 -- A move is listed exactly when it is legal.
 use Rattle.std.proofs.Common.{◌≡◌, ℕ, zero, suc, ◌+◌, ◌<◌, ◌≤◌, Bool, true, false, cond, not, ◌&&◌, ◌||◌, eqb, ◌⊎◌, List, [], ◌∷◌, ◌++◌, Some, None, Decides, Option, sym, refl, ap, ◌∙◌, subst, inl, inr, ⊎_elim, arith}
-use Rattle.std.specs.List.{ContainsAt as Has, AllByRecursion as All}
+use Rattle.std.specs.List.{ContainsAt as Has, AllByRecursion}
 use Rattle.std.proofs.ByRecursion.{All-append, has_append_left, has_append_right}
 use Rattle.std.proofs.lemmas.Bool.{and_parts, and_from, or_cases, or_left, or_right, eqb-true, eq-eqb, not-true, not_from_false, false≢true, cases_lt, cases_eq}
 use Rattle.std.proofs.lemmas.Bool.Decides.{not_from_Decides}
@@ -213,15 +213,15 @@ module _ (d : Diagram) (m : Man) (f t : ℕ) (f-in : f < 64) (t-in : t < 64) (th
       (subst (Checked (after d.board (passing_of d) m f t k)) (sym ours) c)
 
   module _ (way : Goes d.board (passing_of d) m f t) where
-    one_by : (k : Option Promotion) → Becomes m t k → (x : Bool) → is_in_check k ≡ x → All (Legal d) (cond x [] (a_move f t k ∷ []))
+    one_by : (k : Option Promotion) → Becomes m t k → (x : Bool) → is_in_check k ≡ x → AllByRecursion (Legal d) (cond x [] (a_move f t k ∷ []))
     one_by k h true c = tt
     one_by k h false c = (legal-at d f t k f-in t-in (record { man = m; there = there; ours = ours; way = way; turns = h; safe = unchecked k c }), tt)
 
-    one_legal : (k : Option Promotion) → Becomes m t k → All (Legal d) (One k)
+    one_legal : (k : Option Promotion) → Becomes m t k → AllByRecursion (Legal d) (One k)
     unfolding one
     one_legal k h = one_by k h (is_in_check k) refl
 
-    tries_by : (x : Bool) → at_end m t ≡ x → All (Legal d) (cond x (One (Some Queen) ++ (One (Some Rook) ++ (One (Some Bishop) ++ One (Some Knight)))) (One None))
+    tries_by : (x : Bool) → at_end m t ≡ x → AllByRecursion (Legal d) (cond x (One (Some Queen) ++ (One (Some Rook) ++ (One (Some Bishop) ++ One (Some Knight)))) (One None))
     tries_by true h =
         let end = at_end-from m t h in
         All-append (Legal d) (One (Some Queen)) _ (one_legal (Some Queen) end)
@@ -229,11 +229,11 @@ module _ (d : Diagram) (m : Man) (f t : ℕ) (f-in : f < 64) (t-in : t < 64) (th
         (All-append (Legal d) (One (Some Bishop)) _ (one_legal (Some Bishop) end) (one_legal (Some Knight) end)))
     tries_by false h = one_legal None (λ end. false≢true (sym h ∙ at_end-to m t end))
 
-    tries_legal : All (Legal d) (tries d.board (passing_of d) m f t)
+    tries_legal : AllByRecursion (Legal d) (tries d.board (passing_of d) m f t)
     unfolding tries
     tries_legal = tries_by (at_end m t) refl
 
-  to_by : (x : Bool) → goes d.board (passing_of d) m (reach_of d.board m f) (steps_of d.board m f) t ≡ x → All (Legal d) (cond x (tries d.board (passing_of d) m f t) [])
+  to_by : (x : Bool) → goes d.board (passing_of d) m (reach_of d.board m f) (steps_of d.board m f) t ≡ x → AllByRecursion (Legal d) (cond x (tries d.board (passing_of d) m f t) [])
   to_by true h = tries_legal ((goes_means d.board (passing_of d) m f t f-in).0 h)
   to_by false h = tt
 
@@ -287,7 +287,7 @@ module _ (d : Diagram) (m : Man) (f t : ℕ) (f-in : f < 64) (t-in : t < 64) (th
 
 module _ (d : Diagram) where
   module _ (m : Man) (f : ℕ) (f-in : f < 64) (there : on d.board f ≡ Some m) (ours : m.side ≡ d.mover) where
-    to_legal : (n : ℕ) → n ≤ 64 → All (Legal d) (moves_to d.board (passing_of d) m (reach_of d.board m f) (steps_of d.board m f) f n)
+    to_legal : (n : ℕ) → n ≤ 64 → AllByRecursion (Legal d) (moves_to d.board (passing_of d) m (reach_of d.board m f) (steps_of d.board m f) f n)
     unfolding moves_to
     to_legal zero h = tt
     to_legal (suc n) h =
@@ -295,21 +295,21 @@ module _ (d : Diagram) where
         (to_by d m f n f-in h there ours (goes d.board (passing_of d) m (reach_of d.board m f) (steps_of d.board m f) n) refl)
 
   man_legal : (m : Man) (f : ℕ) → f < 64 → on d.board f ≡ Some m → (x : Bool) → same_side m.side d.mover ≡ x
-      → All (Legal d) (cond x (moves_to d.board (passing_of d) m (reach_of d.board m f) (steps_of d.board m f) f 64) [])
+      → AllByRecursion (Legal d) (cond x (moves_to d.board (passing_of d) m (reach_of d.board m f) (steps_of d.board m f) f 64) [])
   man_legal m f l e true h = to_legal m f l e (side_same m.side d.mover h) 64 (omega arith)
   man_legal m f l e false h = tt
 
   square_legal : (f : ℕ) → f < 64 → (o : Option Man) → on d.board f ≡ o
-      → All (Legal d) (given o [] (λ m. cond (same_side m.side d.mover) (moves_to d.board (passing_of d) m (reach_of d.board m f) (steps_of d.board m f) f 64) []))
+      → AllByRecursion (Legal d) (given o [] (λ m. cond (same_side m.side d.mover) (moves_to d.board (passing_of d) m (reach_of d.board m f) (steps_of d.board m f) f 64) []))
   square_legal f l None h = tt
   square_legal f l (Some m) h = man_legal m f l h (same_side m.side d.mover) refl
 
-  from_legal : (n : ℕ) → n ≤ 64 → All (Legal d) (moves_from d.board d.mover (passing_of d) n)
+  from_legal : (n : ℕ) → n ≤ 64 → AllByRecursion (Legal d) (moves_from d.board d.mover (passing_of d) n)
   unfolding moves_from
   from_legal zero h = tt
   from_legal (suc n) h = All-append (Legal d) (moves_from d.board d.mover (passing_of d) n) _ (from_legal n (omega arith)) (square_legal n h (on d.board n) refl)
 
-  pub listed_legal : All (Legal d) (legal_moves d)
+  pub listed_legal : AllByRecursion (Legal d) (legal_moves d)
   listed_legal = from_legal 64 (omega arith)
 
   pub legal_listed : (v : Move) → Legal d v → Has (legal_moves d) v

@@ -1,6 +1,6 @@
 -- The moves are listed in order.
 use Rattle.std.proofs.Common.{◌≡◌, ℕ, zero, suc, ◌+◌, ◌-◌, ◌*◌, ◌<◌, ◌≤◌, Bool, true, false, cond, ◌⊎◌, List, [], ◌∷◌, ◌++◌, Some, None, Option, sym, refl, ap, ◌∙◌, inl, inr, ⊎_elim, arith}
-use Rattle.std.specs.List.{AllByRecursion as All}
+use Rattle.std.specs.List.{AllByRecursion}
 use Rattle.std.proofs.lemmas.Bool.{cases_order}
 use Rattle.chess_attacks.specs.declared.men.Man.{Man}
 use Rattle.chess_attacks.specs.declared.men.Side.{Side}
@@ -54,7 +54,7 @@ joined : (lo mid hi : ℕ) (vs ws : List Move) → Rising lo vs mid → Rising m
 joined lo mid hi [] ws r s = wider mid lo hi hi ws r (omega arith) s
 joined lo mid hi (v ∷ vs) ws r s = (r.0, joined (suc (place v)) mid hi vs ws r.1 s)
 
-rising-after : (v : Move) (lo hi : ℕ) (vs : List Move) → place v < lo → Rising lo vs hi → All (Before v) vs
+rising-after : (v : Move) (lo hi : ℕ) (vs : List Move) → place v < lo → Rising lo vs hi → AllByRecursion (Before v) vs
 rising-after v lo hi [] l r = tt
 rising-after v lo hi (w ∷ vs) l r = (place-before v w (omega (arith, r.0)), rising-after v (suc (place w)) hi vs (omega (arith, r.0)) r.1)
 

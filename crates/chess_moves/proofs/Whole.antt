@@ -1,6 +1,6 @@
 -- The list of legal moves is what it is to be.
 use Rattle.std.proofs.Common.{◌≡◌, ℕ, ◌<◌, ◌≤◌, Bool, true, false, ltb, List, [], ◌∷◌, length, take, Decides, sym, refl, ap, ◌∙◌, arith}
-use Rattle.std.specs.List.{ContainsAt as Has, AllByRecursion as All}
+use Rattle.std.specs.List.{ContainsAt as Has, AllByRecursion}
 use Rattle.std.proofs.ByRecursion.{all-has}
 use Rattle.std.proofs.lemmas.Bool.{false≢true}
 use Rattle.chess_moves.specs.declared.diagram.Diagram.{Diagram}
@@ -18,7 +18,7 @@ pub first_some : (vs : List Move) → ltb 0 (length (take 1 vs)) ≡ any_move vs
 first_some [] = refl
 first_some (v ∷ vs) = refl
 
-some_has : (P : Move → Type 0) (vs : List Move) → All P vs → any_move vs ≡ true → (v : Move) × P v
+some_has : (P : Move → Type 0) (vs : List Move) → AllByRecursion P vs → any_move vs ≡ true → (v : Move) × P v
 some_has P [] a h = absurd (false≢true h)
 some_has P (v ∷ vs) a h = (v, a.0)
 

@@ -1,6 +1,6 @@
 -- When a move is legal, in the words of the Laws of Chess, and the order of moves.
 use Rattle.std.specs.Prelude.{◌≡◌, ℕ, ◌<◌, ◌≤◌, ◌⊎◌, List, [], ◌∷◌, Some, None, Option, ◌≢◌}
-use Rattle.std.specs.List.{ContainsAt as Has, AllByRecursion as All}
+use Rattle.std.specs.List.{ContainsAt as Has, AllByRecursion}
 use Rattle.board.specs.Squares.{row, reach, away}
 use Rattle.chess_attacks.specs.declared.men.Man.{Man}
 use Rattle.chess_attacks.specs.declared.men.Kind.{Kind}
@@ -76,7 +76,7 @@ Before v w =
 -- each move comes before all that follow it
 abbrev pub Ordered : List Move → Type 0
 Ordered [] = Unit {0}
-Ordered (v ∷ vs) = All (Before v) vs × Ordered vs
+Ordered (v ∷ vs) = AllByRecursion (Before v) vs × Ordered vs
 
 -- the moves of a list are the legal ones, no other, and they stand in order
 pub record Lists (d : Diagram) (vs : List Move) : Type 0 where

@@ -1,3 +1,5 @@
+#![tactic(auto)]
+
 mod after;
 mod diagram;
 mod generation;

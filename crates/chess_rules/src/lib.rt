@@ -1,3 +1,5 @@
+#![tactic(auto)]
+
 mod playing;
 mod position;
 mod rules;

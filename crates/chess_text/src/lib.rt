@@ -1,3 +1,5 @@
+#![tactic(auto)]
+
 ghost use Rattle.chess_text.specs.Grammar.{SameTexts};
 ghost use Rattle.chess_text.specs.Samples.{Samples};
 

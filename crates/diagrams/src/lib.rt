@@ -1,3 +1,5 @@
+#![tactic(auto)]
+
 ghost use Rattle.std.specs.Prelude.{◌≡◌, [], ◌∷◌};
 ghost use Rattle.table.specs.Numbers.{capped};
 ghost use Rattle.diagrams.specs.Mates.{Mates};

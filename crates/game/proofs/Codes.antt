@@ -1,11 +1,11 @@
 -- Positions with equal codes are the same tree.
 use Rattle.std.proofs.Common.{◌≡◌, ℕ, zero, suc, ◌<◌, List, [], ◌∷◌, length, get_or, refl, ap, suc-le-suc, arith}
-use Rattle.std.specs.List.{AllByRecursion as All}
+use Rattle.std.specs.List.{AllByRecursion}
 use Rattle.game.specs.Tree.{Tree, node, Moves, none, move, state, rank, code, next, successors, texts, nowhere}
 use Rattle.game.specs.Rules.{Alike}
 
 module _ (positions : Tree → Type 0)
-    (closed : (t : Tree) → positions t → All positions (next t))
+    (closed : (t : Tree) → positions t → AllByRecursion positions (next t))
     (codes : (t u : Tree) → positions t → positions u → code t ≡ code u → Alike t u) where
   mutual
     pub equal_codes : (t u : Tree) → positions t → positions u → code t ≡ code u → t ≡ u
@@ -16,7 +16,7 @@ module _ (positions : Tree → Type 0)
         let y = a.ranks in
         cc
 
-    equal_moves : (m m' : Moves) → texts m ≡ texts m' → All positions (successors m) → All positions (successors m') → ((i : ℕ) → i < length (successors m) → code (get_or (successors m) i nowhere) ≡ code (get_or (successors m') i nowhere)) → m ≡ m'
+    equal_moves : (m m' : Moves) → texts m ≡ texts m' → AllByRecursion positions (successors m) → AllByRecursion positions (successors m') → ((i : ℕ) → i < length (successors m) → code (get_or (successors m) i nowhere) ≡ code (get_or (successors m') i nowhere)) → m ≡ m'
     equal_moves none none e p q f = refl
     equal_moves none (move x' t' m') e p q f = let z : ◌≡◌ {A = ℕ} 0 1 = cc in absurd (omega arith)
     equal_moves (move x t m) none e p q f = let z : ◌≡◌ {A = ℕ} 0 1 = cc in absurd (omega arith)

@@ -1,6 +1,6 @@
 -- What a game keeps, whichever it is.
 use Rattle.std.specs.Prelude.{◌≡◌, ℕ, ◌*◌, ◌^◌, ◌<◌, ◌≤◌, true, false, List, [], length, ◌≢◌, slice_index_or}
-use Rattle.std.specs.List.{AllByRecursion as All}
+use Rattle.std.specs.List.{AllByRecursion}
 use Rattle.game.specs.declared.state.State.TheVariants.{Defender}
 use Rattle.game.specs.Tree.{Tree, Reading, position, state, rank, code, next, words, ended, nowhere}
 
@@ -20,7 +20,7 @@ pub record Rules (start : Tree) (positions : Tree → Type 0) (depth width : ℕ
   pub opens : state start ≡ Defender → ⊥
   pub reads : (x : List ℕ) (aim : ℕ) (t : Tree) → reading x aim ≡ position t → positions t
   pub attacks : (x : List ℕ) (aim : ℕ) (t : Tree) → reading x aim ≡ position t → state t ≢ Defender
-  pub closed : (t : Tree) → positions t → All positions (next t)
+  pub closed : (t : Tree) → positions t → AllByRecursion positions (next t)
   -- the move count: 0 exactly when the position has ended, and at most the width
   pub over : (t : Tree) → positions t → ended (state t) ≡ true → length (next t) ≡ 0
   pub alive : (t : Tree) → positions t → ended (state t) ≡ false → 0 < length (next t)
@@ -28,14 +28,14 @@ pub record Rules (start : Tree) (positions : Tree → Type 0) (depth width : ℕ
   -- the rank: at most the depth, at least 1 unless the position has ended, and lower after each move
   pub shallow : (t : Tree) → positions t → rank t ≤ depth
   pub ranked : (t : Tree) → positions t → ended (state t) ≡ false → 0 < rank t
-  pub falls : (t : Tree) → positions t → All (λ u. rank u < rank t) (next t)
+  pub falls : (t : Tree) → positions t → AllByRecursion (λ u. rank u < rank t) (next t)
   pub low : depth ≤ 32
   pub small : depth * width ≤ 6144
   -- texts of five bytes, no two of a position the same
-  pub five : (t : Tree) → positions t → All (λ x. length x ≡ 5) (words t)
+  pub five : (t : Tree) → positions t → AllByRecursion (λ x. length x ≡ 5) (words t)
   pub distinct : (t : Tree) → positions t → (i j : ℕ) → i < length (words t) → j < length (words t) → slice_index_or (words t) i [] ≡ slice_index_or (words t) j [] → i ≡ j
   -- codes of five words of 64 bits
-  pub coded : (t : Tree) → positions t → (length (code t) ≡ 5) × All (λ w. w < 2 ^ 64) (code t)
+  pub coded : (t : Tree) → positions t → (length (code t) ≡ 5) × AllByRecursion (λ w. w < 2 ^ 64) (code t)
   pub codes : (t u : Tree) → positions t → positions u → code t ≡ code u → Alike t u
 
 -- positions with equal codes are the same tree: so they have the same value, need and lines

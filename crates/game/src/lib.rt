@@ -1,3 +1,5 @@
+#![tactic(auto)]
+
 mod decline;
 mod game;
 mod path;

@@ -1,3 +1,5 @@
+#![tactic(auto)]
+
 // How the cost of a trial grows with the empty squares of an Othello ending: what each trial used goes to standard error,
 // its verdict, which an exhaustive search from outside has confirmed, to standard output.
 use game::Game;

@@ -2,7 +2,7 @@
 use Rattle.std.specs.Prelude.{◌≡◌, ℕ, zero, suc, ◌+◌, ◌*◌, ◌<◌, ◌≤◌, Bool, true, false, cond, not, ◌&&◌, ◌||◌, List, [], ◌∷◌, map, filter, ◌==◌, refl}
 use Rattle.std.proofs.Common.{sym, ap, ap₂, ◌∙◌, subst, arith}
 use Rattle.std.proofs.Math.Bool.{or_comm}
-use Rattle.std.specs.List.{range_with_len, AllByRecursion as All}
+use Rattle.std.specs.List.{range_with_len, AllByRecursion}
 use Rattle.std.proofs.lemmas.Bool.{and_parts, eq-eqb}
 use Rattle.std.proofs.ByRecursion.{kept_by_passes, all_kept_by, All-map, All-weaker}
 use Rattle.game.specs.Tree.{Tree, node, Moves, none, move}
@@ -88,25 +88,25 @@ passed_rank d e = less (empties d) (due (turn (passed d))) (due (turn d)) (ap du
 -- ---- every move leads to a lower rank
 
 -- what is listed is on the board and may be placed
-pub all_placeable : (d : Diagram) → All (λ s. (s < 64) × (placeable d s ≡ true)) (placements d)
+pub all_placeable : (d : Diagram) → AllByRecursion (λ s. (s < 64) × (placeable d s ≡ true)) (placements d)
 unfolding placements
 all_placeable d = both (filter (placeable d) (range_with_len 0 64)) (all_kept_by (placeable d) (λ s. s < 64) (range_with_len 0 64) (below 64 0)) (kept_by_passes (placeable d) (range_with_len 0 64))
   where
-    below : (n a : ℕ) → All (λ s. s < a + n) (range_with_len a n)
+    below : (n a : ℕ) → AllByRecursion (λ s. s < a + n) (range_with_len a n)
     below zero a = tt
     below (suc n) a = (omega arith, All-weaker (λ s. s < a + 1 + n) (λ s. s < a + suc n) (λ s h. omega arith) (range_with_len (a + 1) n) (below n (a + 1)))
 
-    both : (l : List ℕ) → All (λ s. s < 64) l → All (λ s. placeable d s ≡ true) l → All (λ s. (s < 64) × (placeable d s ≡ true)) l
+    both : (l : List ℕ) → AllByRecursion (λ s. s < 64) l → AllByRecursion (λ s. placeable d s ≡ true) l → AllByRecursion (λ s. (s < 64) × (placeable d s ≡ true)) l
     both [] a b = tt
     both (x ∷ l) a b = ((a.0, b.0), both l a.1 b.1)
 
 -- what holds of every placement and of a pass holds of every move
 pub each_move : (d : Diagram) (P : Move → Type 0)
-    → ((s : ℕ) → s < 64 → placeable d s ≡ true → P (placing d s)) → (turn d ≡ Pass → P (passing d)) → All P (moves_of d)
+    → ((s : ℕ) → s < 64 → placeable d s ≡ true → P (placing d s)) → (turn d ≡ Pass → P (passing d)) → AllByRecursion P (moves_of d)
 unfolding moves_of
 each_move d P f g = go (turn d) refl
   where
-    go : (t : Turn) → turn d ≡ t → All P (by_turn d t)
+    go : (t : Turn) → turn d ≡ t → AllByRecursion P (by_turn d t)
     go Place e = All-map P (placing d) (placements d)
         (All-weaker (λ s. (s < 64) × (placeable d s ≡ true)) (λ s. P (placing d s)) (λ s h. f s h.0 h.1) (placements d) (all_placeable d))
     go Pass e = (g e, tt)
@@ -115,12 +115,12 @@ each_move d P f g = go (turn d) refl
 abbrev Lower : Diagram → Move → Type 0
 Lower d m = rank_of m.to < rank_of d
 
-pub all_lower : (d : Diagram) → All (Lower d) (moves_of d)
+pub all_lower : (d : Diagram) → AllByRecursion (Lower d) (moves_of d)
 all_lower d = each_move d (Lower d) (placed_rank d) (passed_rank d)
 
 -- ---- the tree at any depth that suffices
 
-same_branches : (f g : Diagram → Tree) (l : List Move) → All (λ m. f m.to ≡ g m.to) l → branches f l ≡ branches g l
+same_branches : (f g : Diagram → Tree) (l : List Move) → AllByRecursion (λ m. f m.to ≡ g m.to) l → branches f l ≡ branches g l
 same_branches f g [] a = refl
 same_branches f g (m ∷ l) a = ap₂ (λ (t : Tree) (ms : Moves). move m.text t ms) a.0 (same_branches f g l a.1)
 

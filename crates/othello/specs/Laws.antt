@@ -2,7 +2,7 @@
 use Rattle.std.specs.Prelude.{◌≡◌, ℕ, zero, suc, ◌+◌, ◌*◌, ◌^◌, ◌<◌, ◌≤◌, Bool, true, false, cond, List, [], ◌∷◌, map, length, ◌≢◌}
 use Rattle.std.proofs.Math.Path.{refl, ap}
 use Rattle.std.proofs.Common.{sym, ap₂, ◌∙◌, subst, arith}
-use Rattle.std.specs.List.{AllByRecursion as All}
+use Rattle.std.specs.List.{AllByRecursion}
 use Rattle.std.proofs.ByRecursion.{All-map, All-weaker}
 use Rattle.std.proofs.lemmas.Bool.{false≢true}
 use Rattle.game.specs.Tree.{Tree, state, rank, code, next, words, ended, nowhere}
@@ -113,32 +113,32 @@ module _ (attacker : Side) (aim : ℕ) (d : Diagram) where
       go Ended e = absurd (false≢true (sym h ∙ ap ended (state_turn attacker aim d Ended e) ∙ over_by (reached attacker aim d)))
 
   -- what holds of every move's outcome holds of the successors
-  each_next : (P : Tree → Type 0) → All (λ m. P (tree attacker aim m.to)) (moves_of d) → All P (next (tree attacker aim d))
-  each_next P a = subst (All P) (sym (next_is attacker aim d)) (All-map P (λ (m : Move). tree attacker aim m.to) (moves_of d) a)
+  each_next : (P : Tree → Type 0) → AllByRecursion (λ m. P (tree attacker aim m.to)) (moves_of d) → AllByRecursion P (next (tree attacker aim d))
+  each_next P a = subst (AllByRecursion P) (sym (next_is attacker aim d)) (All-map P (λ (m : Move). tree attacker aim m.to) (moves_of d) a)
 
-  pub closed_at : aim ≤ 64 → Keeps d → All IsEnding (next (tree attacker aim d))
+  pub closed_at : aim ≤ 64 → Keeps d → AllByRecursion IsEnding (next (tree attacker aim d))
   closed_at h k =
       each_next IsEnding (each_move d (λ m. IsEnding (tree attacker aim m.to))
       (λ s l e. ending attacker aim (placed d s) h (placed_keeps d s l e k)) (λ e. ending attacker aim (passed d) h (passed_keeps d k)))
 
-  pub falls_at : All (λ u. rank u < rank (tree attacker aim d)) (next (tree attacker aim d))
+  pub falls_at : AllByRecursion (λ u. rank u < rank (tree attacker aim d)) (next (tree attacker aim d))
   falls_at =
       each_next (λ u. rank u < rank (tree attacker aim d))
       (All-weaker (λ m. rank_of m.to < rank_of d) (λ m. rank (tree attacker aim m.to) < rank (tree attacker aim d))
       (λ m l. omega (arith, rank_is attacker aim m.to, rank_is attacker aim d)) (moves_of d) (all_lower d))
 
-  pub five_at : All (λ x. length x ≡ 5) (words (tree attacker aim d))
+  pub five_at : AllByRecursion (λ x. length x ≡ 5) (words (tree attacker aim d))
   five_at =
-      subst (All (λ x. length x ≡ 5)) (sym (words_is attacker aim d))
+      subst (AllByRecursion (λ x. length x ≡ 5)) (sym (words_is attacker aim d))
       (All-map (λ x. length x ≡ 5) (λ (m : Move). m.text) (moves_of d) (each_move d (λ m. length m.text ≡ 5) (λ s l e. refl) (λ e. refl)))
 
   side_small : (m : Side) → side_number m < 2 ^ 64
   side_small X = omega arith
   side_small O = omega arith
 
-  pub coded_at : aim ≤ 64 → Keeps d → (length (code (tree attacker aim d)) ≡ 5) × All (λ w. w < 2 ^ 64) (code (tree attacker aim d))
+  pub coded_at : aim ≤ 64 → Keeps d → (length (code (tree attacker aim d)) ≡ 5) × AllByRecursion (λ w. w < 2 ^ 64) (code (tree attacker aim d))
   coded_at h k =
-      subst (λ (c : List ℕ). (length c ≡ 5) × All (λ w. w < 2 ^ 64) c) (sym (code_is attacker aim d))
+      subst (λ (c : List ℕ). (length c ≡ 5) × AllByRecursion (λ w. w < 2 ^ 64) c) (sym (code_is attacker aim d))
       (refl, (k.board.0, (k.board.1, (side_small d.mover, (side_small attacker, (omega arith, tt))))))
 
   -- the side to move at the beginning attacks

@@ -1,3 +1,5 @@
+#![tactic(auto)]
+
 ghost use Rattle.othello.specs.Endings.{CodesPin, Grows};
 
 mod asking;

@@ -1,3 +1,5 @@
+#![tactic(auto)]
+
 use othello_rules::{Diagram, Side, Turn};
 
 // How many lines of play of so many moves there are; a pass is a move, and a line that ends early counts as one.

@@ -1,3 +1,5 @@
+#![tactic(auto)]
+
 mod diagram;
 mod flips;
 mod listing;

@@ -1,3 +1,5 @@
+#![tactic(auto)]
+
 use chess_moves::Diagram;
 use std::io;
 use std::io::{BufRead, BufReader};

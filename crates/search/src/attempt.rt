@@ -31,7 +31,7 @@ fn decided_verdict(pair: Pair) -> Option<Verdict>
 
 // The verdict that needs no search: of an ended position, or one whose decided pair the table holds.
 fn known_verdict<G: Game, T: Table>(game: &G, table: &T) -> Option<Verdict>
-    ensures { result ≡ known (held table.now) (current game.now) }
+    ensures { result ≡ known (T.held table.now) (G.current game.now) }
 {
     match game.state() {
         State::Won => Some(Verdict::Won),
@@ -65,10 +65,10 @@ pub fn trial<G: Game, T: Table>(
     budget: u32,
     records: &mut [Pair],
 ) -> Result<Answer, Decline>
-    ensures at { current game.new ≡ current game.old }
-    ensures path { earlier game.new ≡ earlier game.old }
-    ensures right { Right G.Game.positions (held table.old) (current game.old) budget result (held table.new) }
-    ensures tried { Tried T.Table.stored (held table.old) (current game.old) budget records.old result (held table.new) records.new }
+    ensures at { G.current game.new ≡ G.current game.old }
+    ensures path { G.earlier game.new ≡ G.earlier game.old }
+    ensures right { Right G.Game.positions (T.held table.old) (G.current game.old) budget result (T.held table.new) }
+    ensures tried { Tried T.Table.stored (T.held table.old) (G.current game.old) budget records.old result (T.held table.new) records.new }
 {
     if budget > MOST {
         return Err(Decline::Budget);
@@ -87,9 +87,9 @@ fn try_out<G: Game, T: Table>(
     records: &mut [Pair],
 ) -> Answer
     requires { 6144 ≤ length records.old }
-    ensures at { current game.new ≡ current game.old }
-    ensures path { earlier game.new ≡ earlier game.old }
-    ensures tried { Trial T.Table.stored (held table.old) (current game.old) budget result (held table.new) }
+    ensures at { G.current game.new ≡ G.current game.old }
+    ensures path { G.earlier game.new ≡ G.earlier game.old }
+    ensures tried { Trial T.Table.stored (T.held table.old) (G.current game.old) budget result (T.held table.new) }
 {
     if let Some(verdict) = known_verdict(game, table) {
         return Answer {

@@ -1,3 +1,5 @@
+#![tactic(auto)]
+
 mod attempt;
 mod choice;
 mod entry;

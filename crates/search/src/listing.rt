@@ -7,7 +7,7 @@ use table::{Pair, Table};
 
 // The pair of the game's position when it is listed: decided if it has ended, else the table's, else (1, 1).
 fn listed_pair<G: Game, T: Table>(game: &G, table: &T) -> Pair
-    ensures { result ≡ listed (held table.now) (current game.now) }
+    ensures { result ≡ listed (T.held table.now) (G.current game.now) }
 {
     match game.state() {
         State::Won => Pair::WON,
@@ -21,10 +21,10 @@ fn listed_pair<G: Game, T: Table>(game: &G, table: &T) -> Pair
 
 // The listed pair of the successor number i.
 fn listed_move<G: Game, T: Table>(game: &mut G, table: &T, i: usize) -> Pair
-    requires { i < length (next (current game.old)) }
-    ensures at { current game.new ≡ current game.old }
-    ensures path { earlier game.new ≡ earlier game.old }
-    ensures pair { result ≡ listed (held table.now) (slice_index_or (next (current game.old)) i nowhere) }
+    requires { i < length (next (G.current game.old)) }
+    ensures at { G.current game.new ≡ G.current game.old }
+    ensures path { G.earlier game.new ≡ G.earlier game.old }
+    ensures pair { result ≡ listed (T.held table.now) (slice_index_or (next (G.current game.old)) i nowhere) }
 {
     let _ = game.play(i);
     let pair = listed_pair(game, table);
@@ -34,10 +34,10 @@ fn listed_move<G: Game, T: Table>(game: &mut G, table: &T, i: usize) -> Pair
 
 // Writes the pairs of the successors of the game's position, in move order.
 pub(crate) fn list_pairs<G: Game, T: Table>(game: &mut G, table: &T, places: &mut [Pair])
-    requires { length places.old ≡ length (next (current game.old)) }
-    ensures at { current game.new ≡ current game.old }
-    ensures path { earlier game.new ≡ earlier game.old }
-    ensures pairs { places.new ≡ map (listed (held table.now)) (next (current game.old)) }
+    requires { length places.old ≡ length (next (G.current game.old)) }
+    ensures at { G.current game.new ≡ G.current game.old }
+    ensures path { G.earlier game.new ≡ G.earlier game.old }
+    ensures pairs { places.new ≡ map (listed (T.held table.now)) (next (G.current game.old)) }
 {
     for i in 0..places.len() {
         places[i] = listed_move(game, table, i);

@@ -22,9 +22,9 @@ const NO_ENTRY: Entry = Entry {
 // Looks at the current position: its value where it has ended, else its entry, which is counted, or nothing where the share is spent.
 fn look<G: Game>(game: &G, entries: &mut u32, share: u32) -> Option<Turn>
     ensures goes { (es : List Kept) → MatchOption result
-        ((t₀ : Tree) (ts₀ : List Tree) → Holds Look es (current game.now) (earlier game.now) entries.old t₀ ts₀ → share < need t₀)
-        (λ turn. Goes Look es (current game.now) (earlier game.now) entries.old
-        turn es (current game.now) (earlier game.now) entries.new) }
+        ((t₀ : Tree) (ts₀ : List Tree) → Holds Look es (G.current game.now) (G.earlier game.now) entries.old t₀ ts₀ → share < need t₀)
+        (λ turn. Goes Look es (G.current game.now) (G.earlier game.now) entries.old
+        turn es (G.current game.now) (G.earlier game.now) entries.new) }
     ensures within { entries.old ≤ share → entries.new ≤ share }
 {
     let attacker = match game.state() {
@@ -47,8 +47,8 @@ fn look<G: Game>(game: &G, entries: &mut u32, share: u32) -> Option<Turn>
 // Tries the next move of the current position's entry, or goes back where none is left.
 fn try_next<G: Game>(game: &mut G, stack: &mut Stack<'_, Entry>, entry: Entry) -> Turn
     requires { room stack.old ≡ 32 }
-    ensures goes { (n : ℕ) → Goes (Try entry) (contents stack.old) (current game.old) (earlier game.old) n
-        result (contents stack.new) (current game.new) (earlier game.new) n }
+    ensures goes { (n : ℕ) → Goes (Try entry) (contents stack.old) (G.current game.old) (G.earlier game.old) n
+        result (contents stack.new) (G.current game.new) (G.earlier game.new) n }
     ensures room { room stack.new ≡ 32 }
 {
     if entry.next >= entry.count {
@@ -64,8 +64,8 @@ fn try_next<G: Game>(game: &mut G, stack: &mut Stack<'_, Entry>, entry: Entry) -
 
 // Goes back to an entry's position with the value of the current one.
 fn come_back<G: Game>(game: &mut G, entry: Entry, won: bool) -> Turn
-    ensures { (es : List Kept) (n : ℕ) → Goes (Back won) (entry ∷ es) (current game.old) (earlier game.old) n
-        result es (current game.new) (earlier game.new) n }
+    ensures { (es : List Kept) (n : ℕ) → Goes (Back won) (entry ∷ es) (G.current game.old) (G.earlier game.old) n
+        result es (G.current game.new) (G.earlier game.new) n }
 {
     let _ = game.take_back();
     if won == entry.attacker {
@@ -76,9 +76,9 @@ fn come_back<G: Game>(game: &mut G, entry: Entry, won: bool) -> Turn
 
 // Searches the current position by minimax, with so many entries at most.
 pub(crate) fn plain_search<G: Game>(game: &mut G, share: u32) -> Option<Found>
-    ensures at { current game.new ≡ current game.old }
-    ensures path { earlier game.new ≡ earlier game.old }
-    ensures found { Searched (current game.old) share result }
+    ensures at { G.current game.new ≡ G.current game.old }
+    ensures path { G.earlier game.new ≡ G.earlier game.old }
+    ensures found { Searched (G.current game.old) share result }
 {
     let mut room = [NO_ENTRY; 32];
     let mut stack = Stack::new(&mut room);

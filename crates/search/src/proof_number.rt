@@ -48,10 +48,10 @@ fn enter<G: Game, T: Table>(
     base: usize,
     thresholds: Thresholds,
 ) -> Frame
-    requires { base + length (next (current game.old)) ≤ length records.old }
+    requires { base + length (next (G.current game.old)) ≤ length records.old }
     ensures { (es : List Kept) (n : ℕ) → base ≡ free es → Goes T.Table.stored G.Game.width
-        (Enter thresholds) es (current game.old) (earlier game.old) records.old (held table.now) (suc n)
-        (Work result) es (current game.new) (earlier game.new) records.new (held table.now) n }
+        (Enter thresholds) es (G.current game.old) (G.earlier game.old) records.old (T.held table.now) (suc n)
+        (Work result) es (G.current game.new) (G.earlier game.new) records.new (T.held table.now) n }
 {
     let end = base + game.count();
     list_pairs(game, table, &mut records[base..end]);
@@ -69,8 +69,8 @@ fn hand_back<G: Game>(game: &mut G, records: &mut [Pair], frame: Frame, pair: Pa
     requires { frame.base + frame.chosen < length records.old }
     ensures rewrites { records.new ≡ slice_set records.old (frame.base + frame.chosen) pair }
     ensures goes { (S : Storing) (h : Held) (es : List Kept) (n : ℕ) → Goes S G.Game.width
-        (Back pair) (frame ∷ es) (current game.old) (earlier game.old) records.old h n
-        (Work frame) es (current game.new) (earlier game.new) records.new h n }
+        (Back pair) (frame ∷ es) (G.current game.old) (G.earlier game.old) records.old h n
+        (Work frame) es (G.current game.new) (G.earlier game.new) records.new h n }
 {
     let _ = game.take_back();
     records[frame.base + frame.chosen] = pair;
@@ -88,8 +88,8 @@ fn work<G: Game, T: Table>(
     requires order { frame.base ≤ frame.end }
     requires inside { frame.end ≤ length records.now }
     ensures goes { (n : ℕ) → Goes T.Table.stored G.Game.width
-        (Work frame) (contents stack.old) (current game.old) (earlier game.old) records.now (held table.old) n
-        result (contents stack.new) (current game.new) (earlier game.new) records.now (held table.new) n }
+        (Work frame) (contents stack.old) (G.current game.old) (G.earlier game.old) records.now (T.held table.old) n
+        result (contents stack.new) (G.current game.new) (G.earlier game.new) records.now (T.held table.new) n }
     ensures room { room stack.new ≡ 32 }
 {
     let base = frame.base;
@@ -116,9 +116,9 @@ pub(crate) fn run<G: Game, T: Table>(
     records: &mut [Pair],
 ) -> Finish
     requires { 6144 ≤ length records.old }
-    ensures at { current game.new ≡ current game.old }
-    ensures path { earlier game.new ≡ earlier game.old }
-    ensures run { Finished T.Table.stored (held table.old) left (current game.old) result (held table.new) }
+    ensures at { G.current game.new ≡ G.current game.old }
+    ensures path { G.earlier game.new ≡ G.earlier game.old }
+    ensures run { Finished T.Table.stored (T.held table.old) left (G.current game.old) result (T.held table.new) }
 {
     let mut room = [NO_FRAME; 32];
     let mut stack = Stack::new(&mut room);

@@ -8,8 +8,8 @@ use stack::Stack;
 
 // Takes back as many moves as there are entries on the stack.
 pub(crate) fn take_all_back<G: Game, E: Copy>(game: &mut G, stack: &mut Stack<'_, E>)
-    ensures path { ◌≡◌ {A = Tree × List Tree} (current game.new, earlier game.new)
-        (back (length (contents stack.old)) (current game.old) (earlier game.old)) }
+    ensures path { ◌≡◌ {A = Tree × List Tree} (G.current game.new, G.earlier game.new)
+        (back (length (contents stack.old)) (G.current game.old) (G.earlier game.old)) }
     ensures empty { contents stack.new ≡ [] }
 {
     while let Some(_) = stack.pop() {

@@ -2,7 +2,7 @@
 use Rattle.std.proofs.Common.{◌≡◌, ℕ, zero, suc, ◌<◌, ◌≤◌, Bool, true, false, ◌⊎◌, List, [], ◌∷◌, map, length, get_or, Some, None, Option, sym, refl, ap, ◌∙◌, subst, inl, inr, arith}
 use mathlib.Core.List.{List-discrete}
 use native.Mathlib.Decide.{ℕ_discrete}
-use Rattle.std.specs.List.{AllByRecursion as All}
+use Rattle.std.specs.List.{AllByRecursion}
 use Rattle.std.proofs.lemmas.List.{get_or-map, length-map}
 use Rattle.game.specs.declared.state.State.{State}
 use Rattle.game.specs.declared.state.State.TheVariants.{Won, NotWon, Attacker, Defender}
@@ -58,7 +58,7 @@ active_child Defends (node NotWon r c m) p f x y = absurd (y (proof-of (f.ended_
 active_child Defends (node Attacker r c m) p f x y = tt
 active_child Defends (node Defender r c m) p f x y = tt
 
-pub all-at : {X : Type 0} (P : X → Type 0) (xs : List X) (i : ℕ) (d : X) → All P xs → i < length xs → P (get_or xs i d)
+pub all-at : {X : Type 0} (P : X → Type 0) (xs : List X) (i : ℕ) (d : X) → AllByRecursion P xs → i < length xs → P (get_or xs i d)
 all-at P [] i d h l = absurd (omega arith)
 all-at P (x ∷ xs) zero d h l = h.0
 all-at P (x ∷ xs) (suc i) d h l = all-at P xs i d h.1 (omega arith)
@@ -127,7 +127,7 @@ module _ (positions : Tree → Type 0) (ranging : Ranging positions) (stored : S
   fits_listed held (node Attacker r c m) s i = fits-active (node Attacker r c m) _ tt (fresh_agrees held (node Attacker r c m) s i (held c) refl)
   fits_listed held (node Defender r c m) s i = fits-active (node Defender r c m) _ tt (fresh_agrees held (node Defender r c m) s i (held c) refl)
 
-  fit_listed : (held : Held) → Sound positions held → (us : List Tree) → All positions us → Fit us (map (listed held) us)
+  fit_listed : (held : Held) → Sound positions held → (us : List Tree) → AllByRecursion positions us → Fit us (map (listed held) us)
   fit_listed held s [] h = tt
   fit_listed held s (u ∷ us) h = (fits_listed held u s h.0, fit_listed held s us h.1)
 

@@ -1,6 +1,6 @@
 -- What holds of runs and trials.
 use Rattle.std.specs.Prelude.{◌≡◌, ℕ, ◌+◌, ◌<◌, ◌≤◌, true, false, not, T, ◌⊎◌, List, [], ◌∷◌, ◌++◌, Some, None, ◌≢◌}
-use Rattle.std.specs.List.{AllByRecursion as All}
+use Rattle.std.specs.List.{AllByRecursion}
 use Rattle.game.specs.declared.state.State.{State}
 use Rattle.game.specs.Tree.{Tree, state, code, next, ended, minimax}
 use Rattle.game.specs.Rules.{CodesTell}
@@ -18,7 +18,7 @@ pub record Keeping (stored : Storing) : Type 0 where
 
 -- A game's positions: with each position its successors, and no code of two positions.
 pub record Ranging (positions : Tree → Type 0) : Type 0 where
-  pub closed : (t : Tree) → positions t → All positions (next t)
+  pub closed : (t : Tree) → positions t → AllByRecursion positions (next t)
   pub codes : CodesTell positions
 
 -- a pair is right of a position: if it is decided, the position has that value

@@ -1,3 +1,5 @@
+#![tactic(auto)]
+
 ghost use Rattle.search_laws.specs.Claims.{RunsAreRight, TrialsAreRight, SpentIsMeant, RunsLast, VerdictsLast, RunsAgree, TrialsAgree, RunsEnd, TrialsEnd, RunsDecide, FramesCompose};
 ghost use Rattle.search_laws.specs.Examples.{ChainTrials, NewestTrials, WideTrials};
 

@@ -1,3 +1,5 @@
+#![tactic(auto)]
+
 // Trials on a pile of stones, counted by hand.
 #[cfg(test)]
 mod tests {

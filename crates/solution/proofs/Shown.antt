@@ -1,6 +1,6 @@
 -- The lines of a solution in the buffer, and what its answer means.
 use Rattle.std.proofs.Common.{◌≡◌, ℕ, suc, ◌+◌, ◌*◌, ◌/◌, ◌%◌, ◌≤◌, Bool, true, false, cond, not, ◌||◌, eqb, ltb, leb, List, [], ◌∷◌, ◌++◌, length, take, drop, Some, None, sym, refl, ap, ◌∙◌, subst, ap₂, append_assoc, arith, length-append, length-drop}
-use Rattle.std.specs.List.{AllByRecursion as All}
+use Rattle.std.specs.List.{AllByRecursion}
 use Rattle.std.proofs.lemmas.List.{drop-drop, take_at, drop_at}
 use Rattle.game.specs.declared.decline.Decline.TheVariants.{Budget, Records, Buffer, NotAttacker, MoveNumber}
 use Rattle.game.specs.declared.state.State.{State}
@@ -21,7 +21,7 @@ use Rattle.solution.specs.Calls.{is_attacker, declined, Solved, Means}
 
 -- lines laid from place n on
 
-laid_from : (ls : List Line) (n : ℕ) (front rest : List ℕ) → All Fits ls → length front ≡ 8 * n → 8 * length ls ≤ length rest
+laid_from : (ls : List Line) (n : ℕ) (front rest : List ℕ) → AllByRecursion Fits ls → length front ≡ 8 * n → 8 * length ls ≤ length rest
     → laid ls n (front ++ rest) ≡ front ++ (all_bytes ls ++ drop (8 * length ls) rest)
 unfolding laid
 laid_from [] n front rest f e l = refl
@@ -37,7 +37,7 @@ laid_from (l ∷ ls) n front rest f e h =
     ap (laid ls (n + 1)) p ∙ ih ∙ append_assoc front (bytes l) (all_bytes ls ++ drop (8 * length ls) (drop 8 rest))
     ∙ ap (λ (x : List ℕ). front ++ x) (sym (append_assoc (bytes l) (all_bytes ls) (drop (8 * length ls) (drop 8 rest))) ∙ ap (λ (x : List ℕ). (bytes l ++ all_bytes ls) ++ x) dd)
 
-laid-over : (ls : List Line) (buffer : List ℕ) → All Fits ls → length ls ≤ length buffer / 8 → laid ls 0 buffer ≡ written_over ls buffer
+laid-over : (ls : List Line) (buffer : List ℕ) → AllByRecursion Fits ls → length ls ≤ length buffer / 8 → laid ls 0 buffer ≡ written_over ls buffer
 laid-over ls buffer f h = laid_from ls 0 [] buffer f refl (omega arith)
 
 abbrev blank : Tally

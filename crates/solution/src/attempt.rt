@@ -36,9 +36,9 @@ fn try_out<G: Game, T: Table>(
 ) -> Answer
     requires budget { budget ≤ 99999999 }
     requires records { 6144 ≤ length records.old }
-    ensures at { current game.new ≡ current game.old }
-    ensures path { earlier game.new ≡ earlier game.old }
-    ensures tried { Trial T.Table.stored (held table.old) (current game.old) budget result (held table.new) }
+    ensures at { G.current game.new ≡ G.current game.old }
+    ensures path { G.earlier game.new ≡ G.earlier game.old }
+    ensures tried { Trial T.Table.stored (T.held table.old) (G.current game.old) budget result (T.held table.new) }
 {
     match trial(game, table, budget, records) {
         Ok(answer) => answer,
@@ -56,10 +56,10 @@ fn try_move<G: Game, T: Table>(
 ) -> Answer
     requires budget { budget ≤ 99999999 }
     requires records { 6144 ≤ length records.old }
-    requires number { i < length (next (current game.old)) }
-    ensures at { current game.new ≡ current game.old }
-    ensures path { earlier game.new ≡ earlier game.old }
-    ensures tried { Trial T.Table.stored (held table.old) (slice_index_or (next (current game.old)) i nowhere) budget result (held table.new) }
+    requires number { i < length (next (G.current game.old)) }
+    ensures at { G.current game.new ≡ G.current game.old }
+    ensures path { G.earlier game.new ≡ G.earlier game.old }
+    ensures tried { Trial T.Table.stored (T.held table.old) (slice_index_or (next (G.current game.old)) i nowhere) budget result (T.held table.new) }
     ensures cost { cost result ≤ budget }
 {
     let _ = game.play(i);
@@ -77,12 +77,12 @@ pub(crate) fn try_moves<G: Game, T: Table>(
     flags: &mut [bool],
 ) -> Attempt
     requires records { 6144 ≤ length records.old }
-    requires flags { length (next (current game.old)) ≤ length flags.old }
-    requires count { length (next (current game.old)) ≤ 6144 }
+    requires flags { length (next (G.current game.old)) ≤ length flags.old }
+    requires count { length (next (G.current game.old)) ≤ 6144 }
     requires budget { budget ≤ 99999999 }
-    ensures at { current game.new ≡ current game.old }
-    ensures path { earlier game.new ≡ earlier game.old }
-    ensures tried { Attempted T.Table.stored budget (held table.old) (moves (current game.old)) (take (length (next (current game.old))) flags.new) result.spent result.sum (held table.new) }
+    ensures at { G.current game.new ≡ G.current game.old }
+    ensures path { G.earlier game.new ≡ G.earlier game.old }
+    ensures tried { Attempted T.Table.stored budget (T.held table.old) (moves (G.current game.old)) (take (length (next (G.current game.old))) flags.new) result.spent result.sum (T.held table.new) }
     ensures sum { result.sum ≤ 614399993856 }
 {
     let mut sum = 0;

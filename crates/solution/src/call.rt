@@ -28,7 +28,7 @@ fn refusal<G: Game>(
     records: usize,
     bytes: usize,
 ) -> Option<Decline>
-    ensures { result ≡ declined (current game.now) intended budget records bytes }
+    ensures { result ≡ declined (G.current game.now) intended budget records bytes }
 {
     if budget > MOST {
         return Some(Decline::Budget);
@@ -60,9 +60,9 @@ fn write_solution<G: Game, T: Table>(
     requires budget { budget ≤ 99999999 }
     requires records { 6144 ≤ length records.old }
     requires buffer { length buffer.old ≤ 32768 }
-    ensures at { current game.new ≡ current game.old }
-    ensures path { earlier game.new ≡ earlier game.old }
-    ensures solved { Solved T.Table.stored (held table.old) (current game.old) intended budget buffer.old result (held table.new) buffer.new }
+    ensures at { G.current game.new ≡ G.current game.old }
+    ensures path { G.earlier game.new ≡ G.earlier game.old }
+    ensures solved { Solved T.Table.stored (T.held table.old) (G.current game.old) intended budget buffer.old result (T.held table.new) buffer.new }
 {
     let mut flags = [false; RECORDS];
     let mut tally = Tally {
@@ -99,10 +99,10 @@ pub fn solve<G: Game, T: Table>(
     records: &mut [Pair],
     buffer: &mut [u8],
 ) -> Result<Solution, Decline>
-    ensures at { current game.new ≡ current game.old }
-    ensures path { earlier game.new ≡ earlier game.old }
-    ensures answered { Answered T.Table.stored (held table.old) (current game.old) intended budget records.old buffer.old result (held table.new) records.new buffer.new }
-    ensures right { Right G.Game.positions (held table.old) (current game.old) budget result (held table.new) buffer.new }
+    ensures at { G.current game.new ≡ G.current game.old }
+    ensures path { G.earlier game.new ≡ G.earlier game.old }
+    ensures answered { Answered T.Table.stored (T.held table.old) (G.current game.old) intended budget records.old buffer.old result (T.held table.new) records.new buffer.new }
+    ensures right { Right G.Game.positions (T.held table.old) (G.current game.old) budget result (T.held table.new) buffer.new }
 {
     if let Some(cause) = refusal(game, intended, budget, records.len(), buffer.len()) {
         return Err(cause);

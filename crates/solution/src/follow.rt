@@ -29,10 +29,10 @@ fn attack<G: Game, T: Table>(
     requires budget { budget ≤ 99999999 }
     requires fair { Fair tally.old }
     requires ply { ply < 100 }
-    requires attacker { state (current game.old) ≡ Attacker }
-    ensures at { current game.new ≡ current game.old }
-    ensures path { earlier game.new ≡ earlier game.old }
-    ensures attacks { Attacks T.Table.stored budget ply intended (current game.old) (held table.old) buffer.old tally.old result (held table.new) buffer.new tally.new }
+    requires attacker { state (G.current game.old) ≡ Attacker }
+    ensures at { G.current game.new ≡ G.current game.old }
+    ensures path { G.earlier game.new ≡ G.earlier game.old }
+    ensures attacks { Attacks T.Table.stored budget ply intended (G.current game.old) (T.held table.old) buffer.old tally.old result (T.held table.new) buffer.new tally.new }
 {
     let attempt = try_moves(game, table, budget, records, flags);
     if attempt.spent {
@@ -89,12 +89,12 @@ fn follow_move<G: Game, T: Table>(
     requires flags { 6144 ≤ length flags.old }
     requires budget { budget ≤ 99999999 }
     requires fair { Fair tally.old }
-    requires ply { ply + rank (current game.old) ≤ 33 }
+    requires ply { ply + rank (G.current game.old) ≤ 33 }
     requires buffer { length buffer.old ≤ 32768 }
-    requires number { i < length (next (current game.old)) }
-    ensures at { current game.new ≡ current game.old }
-    ensures path { earlier game.new ≡ earlier game.old }
-    ensures follows { Followed T.Table.stored budget (ply + 1) None (slice_index_or (next (current game.old)) i nowhere) (held table.old) buffer.old tally.old result (held table.new) buffer.new tally.new }
+    requires number { i < length (next (G.current game.old)) }
+    ensures at { G.current game.new ≡ G.current game.old }
+    ensures path { G.earlier game.new ≡ G.earlier game.old }
+    ensures follows { Followed T.Table.stored budget (ply + 1) None (slice_index_or (next (G.current game.old)) i nowhere) (T.held table.old) buffer.old tally.old result (T.held table.new) buffer.new tally.new }
 {
     let _ = game.play(i);
     let after = follow(
@@ -129,12 +129,12 @@ fn follow_best<G: Game, T: Table>(
     requires flags { 6144 ≤ length flags.old }
     requires budget { budget ≤ 99999999 }
     requires fair { Fair tally.old }
-    requires ply { ply + rank (current game.old) ≤ 33 }
+    requires ply { ply + rank (G.current game.old) ≤ 33 }
     requires buffer { length buffer.old ≤ 32768 }
-    requires attacker { state (current game.old) ≡ Attacker }
-    ensures at { current game.new ≡ current game.old }
-    ensures path { earlier game.new ≡ earlier game.old }
-    ensures follows { Followed T.Table.stored budget ply intended (current game.old) (held table.old) buffer.old tally.old result (held table.new) buffer.new tally.new }
+    requires attacker { state (G.current game.old) ≡ Attacker }
+    ensures at { G.current game.new ≡ G.current game.old }
+    ensures path { G.earlier game.new ≡ G.earlier game.old }
+    ensures follows { Followed T.Table.stored budget ply intended (G.current game.old) (T.held table.old) buffer.old tally.old result (T.held table.new) buffer.new tally.new }
 {
     match attack(
         game, table, ply, intended, budget, records, flags, buffer, tally,
@@ -168,12 +168,12 @@ fn follow_replies<G: Game, T: Table>(
     requires flags { 6144 ≤ length flags.old }
     requires budget { budget ≤ 99999999 }
     requires fair { Fair tally.old }
-    requires ply { ply + rank (current game.old) ≤ 33 }
+    requires ply { ply + rank (G.current game.old) ≤ 33 }
     requires buffer { length buffer.old ≤ 32768 }
-    requires defender { state (current game.old) ≡ Defender }
-    ensures at { current game.new ≡ current game.old }
-    ensures path { earlier game.new ≡ earlier game.old }
-    ensures follows { (i : Option ℕ) → Followed T.Table.stored budget ply i (current game.old) (held table.old) buffer.old tally.old result (held table.new) buffer.new tally.new }
+    requires defender { state (G.current game.old) ≡ Defender }
+    ensures at { G.current game.new ≡ G.current game.old }
+    ensures path { G.earlier game.new ≡ G.earlier game.old }
+    ensures follows { (i : Option ℕ) → Followed T.Table.stored budget ply i (G.current game.old) (T.held table.old) buffer.old tally.old result (T.held table.new) buffer.new tally.new }
 {
     let mut sum = 0;
     for i in 0..game.count() {
@@ -215,11 +215,11 @@ pub(crate) fn follow<G: Game, T: Table>(
     requires flags { 6144 ≤ length flags.old }
     requires budget { budget ≤ 99999999 }
     requires fair { Fair tally.old }
-    requires ply { ply + rank (current game.old) ≤ 33 }
+    requires ply { ply + rank (G.current game.old) ≤ 33 }
     requires buffer { length buffer.old ≤ 32768 }
-    ensures at { current game.new ≡ current game.old }
-    ensures path { earlier game.new ≡ earlier game.old }
-    ensures follows { Followed T.Table.stored budget ply intended (current game.old) (held table.old) buffer.old tally.old result (held table.new) buffer.new tally.new }
+    ensures at { G.current game.new ≡ G.current game.old }
+    ensures path { G.earlier game.new ≡ G.earlier game.old }
+    ensures follows { Followed T.Table.stored budget ply intended (G.current game.old) (T.held table.old) buffer.old tally.old result (T.held table.new) buffer.new tally.new }
 {
     match game.state() {
         State::Won => Stretch {

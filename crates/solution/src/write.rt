@@ -100,8 +100,8 @@ pub(crate) fn write_move<G: Game>(
 ) -> bool
     requires fair { Fair tally.old }
     requires ply { ply < 100 }
-    requires number { i < length (words (current game.now)) }
-    ensures { Writes (record { ply = ply; sign = sign; text = slice_index_or (words (current game.now)) i [] } ∷ []) buffer.old tally.old result buffer.new tally.new }
+    requires number { i < length (words (G.current game.now)) }
+    ensures { Writes (record { ply = ply; sign = sign; text = slice_index_or (words (G.current game.now)) i [] } ∷ []) buffer.old tally.old result buffer.new tally.new }
 {
     match game.text(i) {
         Some(text) => write_line(buffer, tally, ply, sign, &text),
@@ -122,8 +122,8 @@ fn write_other<G: Game>(
     requires fair { Fair tally.old }
     requires ply { ply < 100 }
     requires flag { i < length flags.now }
-    requires number { i < length (words (current game.now)) }
-    ensures { Writes (other_at ply chosen i flags.now (words (current game.now))) buffer.old tally.old result buffer.new tally.new }
+    requires number { i < length (words (G.current game.now)) }
+    ensures { Writes (other_at ply chosen i flags.now (words (G.current game.now))) buffer.old tally.old result buffer.new tally.new }
 {
     if !flags[i] {
         return true;
@@ -145,9 +145,9 @@ pub(crate) fn write_wins<G: Game>(
 ) -> bool
     requires fair { Fair tally.old }
     requires ply { ply < 100 }
-    requires number { chosen < length (words (current game.now)) }
-    requires flags { length flags.now ≡ length (words (current game.now)) }
-    ensures { Writes (wins ply chosen flags.now (words (current game.now))) buffer.old tally.old result buffer.new tally.new }
+    requires number { chosen < length (words (G.current game.now)) }
+    requires flags { length flags.now ≡ length (words (G.current game.now)) }
+    ensures { Writes (wins ply chosen flags.now (words (G.current game.now))) buffer.old tally.old result buffer.new tally.new }
 {
     if !write_move(game, buffer, tally, ply, Sign::Chosen, chosen) {
         return false;

@@ -1,6 +1,6 @@
 -- Every solution comes to an end.
 use Rattle.std.proofs.Common.{◌≡◌, ℕ, zero, suc, ◌-◌, ◌<◌, ◌≤◌, Bool, true, false, leb, ◌⊎◌, List, [], length, Some, None, Option, refl, inl, inr, arith}
-use Rattle.std.specs.List.{AllByRecursion as All}
+use Rattle.std.specs.List.{AllByRecursion}
 use Rattle.std.proofs.ByRecursion.{All-get_or}
 use Rattle.std.proofs.lemmas.Bool.{leb-true, leb-false}
 use Rattle.game.specs.declared.state.State.TheVariants.{Won, NotWon, Attacker, Defender}
@@ -55,7 +55,7 @@ module _ (stored : Storing) (trials : TrialsEnd stored) (b : ℕ) where
   abbrev Ends : Tree → Type 0
   Ends t = (k : ℕ) (i : Option ℕ) (held : Held) (room : ℕ) → (p : Part) × (h : Held) × Solves stored b k i t held room p h
 
-  attacked : (t : Tree) → state t ≡ Attacker → All Ends (next t) → Ends t
+  attacked : (t : Tree) → state t ≡ Attacker → AllByRecursion Ends (next t) → Ends t
   attacked t e us k i held room = go (attempt (moves t) held)
     where
       on : (ws : List Bool) (n j : ℕ) (h : Held) → AllTried stored b held (moves t) ws n h → best i ws ≡ Some j
@@ -97,7 +97,7 @@ module _ (stored : Storing) (trials : TrialsEnd stored) (b : ℕ) where
     ends (node Attacker r c m) k i held room = attacked (node Attacker r c m) refl (each m) k i held room
     ends (node Defender r c m) k i held room = let z = replies m k held room in (_, _, defends refl z.2)
 
-    each : (m : Moves) → All Ends (successors m)
+    each : (m : Moves) → AllByRecursion Ends (successors m)
     each none = tt
     each (move x t m) = (ends t, each m)
 

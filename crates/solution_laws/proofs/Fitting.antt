@@ -1,6 +1,6 @@
 -- The lines of a solution have eight bytes each, and can be read again.
 use Rattle.std.proofs.Common.{◌≡◌, ℕ, suc, ◌+◌, ◌-◌, ◌*◌, ◌/◌, ◌%◌, ◌<◌, ◌≤◌, Bool, true, false, cond, eqb, List, [], ◌∷◌, ◌++◌, length, take, drop, Option, refl, ap, ◌∙◌, append_assoc, arith}
-use Rattle.std.specs.List.{AllByRecursion as All}
+use Rattle.std.specs.List.{AllByRecursion}
 use Rattle.std.proofs.ByRecursion.{All-get_or, All-append, All-take}
 use Rattle.std.proofs.lemmas.List.{take_at, drop_at}
 use Rattle.game.specs.declared.state.State.TheVariants.{Attacker}
@@ -29,7 +29,7 @@ line-back l =
     let p : 10 * (48 + l.ply / 10 - 48) + (48 + l.ply % 10 - 48) ≡ l.ply = omega arith in
     λ i. record { ply = p i; sign = sign-back l.sign i; text = l.text }
 
-read_back : (ls : List Line) (rest : List ℕ) → All Fits ls → lines_in (length ls) (all_bytes ls ++ rest) ≡ ls
+read_back : (ls : List Line) (rest : List ℕ) → AllByRecursion Fits ls → lines_in (length ls) (all_bytes ls ++ rest) ≡ ls
 read_back [] rest f = refl
 read_back (l ∷ ls) rest f =
     let n : length (bytes l) ≡ 8 = omega (arith, f.0.1) in
@@ -45,17 +45,17 @@ lines_are_read_lem ls before f = read_back ls (drop (8 * length ls) before) f
 
 -- fitting
 
-others-fit : (k j i : ℕ) (ws : List Bool) (xs : List (List ℕ)) → k < 100 → All (λ x. length x ≡ 5) xs → All Fits (others_from k j i ws xs)
+others-fit : (k j i : ℕ) (ws : List Bool) (xs : List (List ℕ)) → k < 100 → AllByRecursion (λ x. length x ≡ 5) xs → AllByRecursion Fits (others_from k j i ws xs)
 others-fit k j i [] xs l f = tt
 others-fit k j i (w ∷ ws) [] l f = tt
 others-fit k j i (false ∷ ws) (x ∷ xs) l f = others-fit k j (suc i) ws xs l f.1
 others-fit k j i (true ∷ ws) (x ∷ xs) l f = go (eqb i j) (others-fit k j (suc i) ws xs l f.1)
   where
-    go : (v : Bool) → All Fits (others_from k j (suc i) ws xs) → All Fits (cond v (others_from k j (suc i) ws xs) (other_line k x ∷ others_from k j (suc i) ws xs))
+    go : (v : Bool) → AllByRecursion Fits (others_from k j (suc i) ws xs) → AllByRecursion Fits (cond v (others_from k j (suc i) ws xs) (other_line k x ∷ others_from k j (suc i) ws xs))
     go true h = h
     go false h = ((l, f.0), h)
 
-wins-fit : (k j : ℕ) (ws : List Bool) (xs : List (List ℕ)) → k < 100 → j < length xs → All (λ x. length x ≡ 5) xs → All Fits (wins k j ws xs)
+wins-fit : (k j : ℕ) (ws : List Bool) (xs : List (List ℕ)) → k < 100 → j < length xs → AllByRecursion (λ x. length x ≡ 5) xs → AllByRecursion Fits (wins k j ws xs)
 wins-fit k j ws xs l h f = ((l, All-get_or (λ x. length x ≡ 5) xs j [] h f), others-fit k j 0 ws xs l f)
 
 module _ {start : Tree} {positions : Tree → Type 0} {depth width : ℕ} {reading : List ℕ → ℕ → Reading} (rules : Rules start positions depth width reading)
@@ -65,7 +65,7 @@ module _ {start : Tree} {positions : Tree → Type 0} {depth width : ℕ} {readi
 
   mutual
     solves_fit : {k : ℕ} {i : Option ℕ} {t : Tree} {held : Held} {room : ℕ} {p : Part} {held' : Held} → Solves stored b k i t held room p held'
-        → positions t → k + rank t ≤ 33 → All Fits p.lines
+        → positions t → k + rank t ≤ 33 → AllByRecursion Fits p.lines
     solves_fit (won e) pt l = tt
     solves_fit (not_won e) pt l = tt
     solves_fit (stopped e st) pt l = tt
@@ -90,7 +90,7 @@ module _ {start : Tree} {positions : Tree → Type 0} {depth width : ℕ} {readi
         replies_fit rs (rank t) (rules.closed t pt) (rules.falls t pt) (rules.five t pt) (omega arith) (omega arith)
 
     replies_fit : {k : ℕ} {m : Moves} {held : Held} {room : ℕ} {p : Part} {held' : Held} → Replies stored b k m held room p held'
-        → (r : ℕ) → All positions (successors m) → All (λ u. rank u < r) (successors m) → All (λ x. length x ≡ 5) (texts m) → k < 100 → k + r ≤ 33 → All Fits p.lines
+        → (r : ℕ) → AllByRecursion positions (successors m) → AllByRecursion (λ u. rank u < r) (successors m) → AllByRecursion (λ x. length x ≡ 5) (texts m) → k < 100 → k + r ≤ 33 → AllByRecursion Fits p.lines
     replies_fit no_reply r c f x l s = tt
     replies_fit (no_room z) r c f x l s = tt
     replies_fit (last z more e) r c f x l s = ((l, x.0), solves_fit more c.0 (omega (arith, f.0)))

@@ -1,6 +1,6 @@
 -- A solution keeps a sound table sound, its attacker's lines are for winning moves, and each key has a line.
 use Rattle.std.proofs.Common.{◌≡◌, ℕ, suc, ◌<◌, Bool, true, false, List, [], ◌∷◌, ◌++◌, map, length, get_or, take, Some, None, Option, sym, refl, ap, ◌∙◌, subst, arith}
-use Rattle.std.specs.List.{AllByRecursion as All}
+use Rattle.std.specs.List.{AllByRecursion}
 use Rattle.std.proofs.ByRecursion.{All-get_or}
 use Rattle.std.proofs.lemmas.List.{get_or-map, length-map}
 use Rattle.game.specs.declared.state.State.TheVariants.{Attacker}
@@ -21,11 +21,11 @@ use Rattle.solution_laws.proofs.Choice.{true_below, best-wins, best_none}
 use Rattle.solution_laws.proofs.Reached.{Deep, deep-join, deep-less, reached-deep, reached-next, RightFrom, right-join, attacks-win, Winning, AllWinning, winning_deep, winning_take, winning_right}
 use Rattle.solution_laws.proofs.Wins.{others_winning, no_lead, has_join, has_win}
 
-module _ (positions : Tree → Type 0) (closed : (t : Tree) → positions t → All positions (next t)) (distinct : (t : Tree) → positions t → Distinct (moves t))
+module _ (positions : Tree → Type 0) (closed : (t : Tree) → positions t → AllByRecursion positions (next t)) (distinct : (t : Tree) → positions t → Distinct (moves t))
     (stored : Storing) (right : TrialsAreRight positions stored) (b : ℕ) where
   -- all moves tried from a sound table: the ones that win are the ones that minimax says
   tried_right : {held : Held} {m : Moves} {ws : List Bool} {n : ℕ} {held' : Held} → AllTried stored b held m ws n held'
-      → All positions (successors m) → Sound positions held → Sound positions held' × (ws ≡ map minimax (successors m))
+      → AllByRecursion positions (successors m) → Sound positions held → Sound positions held' × (ws ≡ map minimax (successors m))
   tried_right no_more l s = (s, refl)
   tried_right {held = held} (tried {held' = h} {x = x} {t = t} {m = m} {w = w} {a = a} r v more) l s =
       let f = right held t b a h s l.0 r in
@@ -37,7 +37,7 @@ module _ (positions : Tree → Type 0) (closed : (t : Tree) → positions t → 
       value true e p q = sym (p e)
       value false e p q = sym (q e)
 
-  stops_sound : {held : Held} {m : Moves} {n : ℕ} {held' : Held} → Stops stored b held m n held' → All positions (successors m) → Sound positions held → Sound positions held'
+  stops_sound : {held : Held} {m : Moves} {n : ℕ} {held' : Held} → Stops stored b held m n held' → AllByRecursion positions (successors m) → Sound positions held → Sound positions held'
   stops_sound {held = held} (spent {held' = h} {t = t} {a = a} r v) l s = (right held t b a h s l.0 r).0
   stops_sound {held = held} (later {held' = h} {t = t} {a = a} w r v more) l s =
       stops_sound more l.1 (right held t b a h s l.0 r).0
@@ -101,7 +101,7 @@ module _ (positions : Tree → Type 0) (closed : (t : Tree) → positions t → 
 
     replies_fine : {k : ℕ} {m : Moves} {held : Held} {room : ℕ} {p : Part} {held' : Held} → Replies stored b k m held room p held'
         → (start : Tree) (above : List Line) (n : ℕ) (t : Tree) → k ≡ suc n → Sound positions held → reached start above n ≡ Some t
-        → All positions (successors m) → ((i : ℕ) → i < length (successors m) → by_text (get_or (texts m) i []) (moves t) ≡ Some (get_or (successors m) i nowhere))
+        → AllByRecursion positions (successors m) → ((i : ℕ) → i < length (successors m) → by_text (get_or (texts m) i []) (moves t) ≡ Some (get_or (successors m) i nowhere))
         → Fine start above n p held'
     replies_fine no_reply start above n t q s r l d = record { sound = s; deep = tt; fine = tt }
     replies_fine (no_room z) start above n t q s r l d = record { sound = s; deep = tt; fine = tt }

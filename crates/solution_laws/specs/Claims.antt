@@ -1,6 +1,6 @@
 -- What holds of solutions.
 use Rattle.std.specs.Prelude.{◌≡◌, ℕ, zero, suc, ◌-◌, ◌<◌, true, cond, ◌&&◌, List, [], ◌∷◌, ◌++◌, length, Some, None, Option, ◌==◌, slice_index_or}
-use Rattle.std.specs.List.{AllByRecursion as All}
+use Rattle.std.specs.List.{AllByRecursion}
 use Rattle.std.specs.Str.{bytes_eq}
 use Rattle.game.specs.declared.state.State.TheVariants.{Attacker}
 use Rattle.game.specs.Tree.{Tree, Moves, none, move, nowhere, state, moves, next, words, minimax}
@@ -91,4 +91,4 @@ SolutionsEnd stored =
 abbrev pub SolutionsFit : (Tree → Type 0) → Storing → Type 0
 SolutionsFit positions stored =
     (held : Held) (t : Tree) (b i room : ℕ) (p : Part) (held' : Held) → positions t → Solution stored b i t held room p held' →
-    All Fits p.lines
+    AllByRecursion Fits p.lines

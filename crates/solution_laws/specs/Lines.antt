@@ -1,6 +1,6 @@
 -- The lines of a solution: what they say, their eight bytes, how they are read again, and how they are counted.
 use Rattle.std.specs.Prelude.{◌≡◌, ℕ, zero, suc, ◌+◌, ◌-◌, ◌*◌, ◌/◌, ◌%◌, ◌<◌, Bool, true, false, cond, not, ◌&&◌, List, [], ◌∷◌, ◌++◌, length, take, drop, ◌==◌, slice_index_or}
-use Rattle.std.specs.List.{AllByRecursion as All}
+use Rattle.std.specs.List.{AllByRecursion}
 use Rattle.solution_laws.specs.declared.sign.Sign.{Sign}
 use Rattle.solution_laws.specs.declared.sign.Sign.TheVariants.{Chosen, Other, Reply}
 
@@ -45,7 +45,7 @@ Fits l = (l.ply < 100) × (length l.text ≡ 5)
 
 -- The lines written into a buffer can be read again: its bytes say what they are.
 abbrev pub LinesAreRead : Type 0
-LinesAreRead = (ls : List Line) (before : List ℕ) → All Fits ls → lines_in (length ls) (written_over ls before) ≡ ls
+LinesAreRead = (ls : List Line) (before : List ℕ) → AllByRecursion Fits ls → lines_in (length ls) (written_over ls before) ≡ ls
 
 -- an attacker's line has `!` or `+`, and a line that leads on has `!` or `.`
 abbrev pub attacks : Sign → Bool

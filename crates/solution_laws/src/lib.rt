@@ -1,3 +1,5 @@
+#![tactic(auto)]
+
 mod ending;
 mod sign;
 mod theorems;

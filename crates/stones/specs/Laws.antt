@@ -1,7 +1,7 @@
 -- The laws of a game, for piles of stones.
 use Rattle.std.specs.Prelude.{◌≡◌, ℕ, zero, suc, ◌-◌, ◌^◌, ◌<◌, ◌≤◌, Bool, true, false, cond, not, ◌&&◌, List, [], ◌∷◌, length, ◌==◌, ◌≢◌, nat_le, slice_index_or, refl}
 use Rattle.std.proofs.Common.{arith, sym, ap, subst, ◌∙◌, lit<}
-use Rattle.std.specs.List.{AllByRecursion as All}
+use Rattle.std.specs.List.{AllByRecursion}
 use Rattle.std.proofs.lemmas.Bool.{leb-true, and_parts}
 use Rattle.game.specs.Tree.{Tree, Reading, position, refused, state, rank, code, next, words, ended, nowhere}
 use Rattle.game.specs.Rules.{Rules, Alike}
@@ -28,12 +28,12 @@ at P f t p = subst P (sym p.is) (f p.left p.attackers p.few)
 pile : (n : ℕ) (b : Bool) → n ≤ 4 → IsPile (tree n b)
 pile n b h = record { left = n; attackers = b; few = h; is = refl }
 
-closed : (n : ℕ) (b : Bool) → n ≤ 4 → All IsPile (next (tree n b))
+closed : (n : ℕ) (b : Bool) → n ≤ 4 → AllByRecursion IsPile (next (tree n b))
 closed zero b h = tt
 closed (suc zero) b h = (pile 0 (not b) (omega arith), tt)
 closed (suc (suc n)) b h = (pile (suc n) (not b) (omega arith), (pile n (not b) (omega arith), tt))
 
-falls : (n : ℕ) (b : Bool) → n ≤ 4 → All (λ u. rank u < rank (tree n b)) (next (tree n b))
+falls : (n : ℕ) (b : Bool) → n ≤ 4 → AllByRecursion (λ u. rank u < rank (tree n b)) (next (tree n b))
 falls zero b h = tt
 falls (suc zero) b h = (lit< tt, tt)
 falls (suc (suc n)) b h =
@@ -59,7 +59,7 @@ narrow zero b h = omega arith
 narrow (suc zero) b h = omega arith
 narrow (suc (suc n)) b h = omega arith
 
-five : (n : ℕ) (b : Bool) → n ≤ 4 → All (λ x. length x ≡ 5) (words (tree n b))
+five : (n : ℕ) (b : Bool) → n ≤ 4 → AllByRecursion (λ x. length x ≡ 5) (words (tree n b))
 five zero b h = tt
 five (suc zero) b h = (refl, tt)
 five (suc (suc n)) b h = (refl, (refl, tt))
@@ -79,9 +79,9 @@ bit_small : (b : Bool) → flag b < 2 ^ 64
 bit_small true = lit< tt
 bit_small false = lit< tt
 
-coded : (n : ℕ) (b : Bool) → n ≤ 4 → (length (code (tree n b)) ≡ 5) × All (λ w. w < 2 ^ 64) (code (tree n b))
+coded : (n : ℕ) (b : Bool) → n ≤ 4 → (length (code (tree n b)) ≡ 5) × AllByRecursion (λ w. w < 2 ^ 64) (code (tree n b))
 coded n b h =
-    subst (λ c. (length c ≡ 5) × All (λ w. w < 2 ^ 64) c) (sym (code_is n b))
+    subst (λ c. (length c ≡ 5) × AllByRecursion (λ w. w < 2 ^ 64) c) (sym (code_is n b))
     (refl, (omega arith, (bit_small b, (lit< tt, (lit< tt, (lit< tt, tt))))))
 
 -- equal codes
@@ -141,17 +141,17 @@ rules = record {
   opens = first_attacks 4;
   reads = λ x aim t e. let f = read x (aim == 0) t e in record { left = f.0; attackers = true; few = f.1; is = f.2 };
   attacks = λ x aim t e k. let f = read x (aim == 0) t e in first_attacks f.0 (ap state (sym f.2) ∙ k);
-  closed = at (λ t. All IsPile (next t)) closed;
+  closed = at (λ t. AllByRecursion IsPile (next t)) closed;
   over = at (λ t. ended (state t) ≡ true → length (next t) ≡ 0) over;
   alive = λ t p e. (at (λ t. ended (state t) ≡ false → (0 < length (next t)) × (0 < rank t)) alive t p e).0;
   narrow = at (λ t. length (next t) ≤ 2) narrow;
   shallow = at (λ t. rank t ≤ 4) (λ n b h. let e = rank_is n b in omega arith);
   ranked = λ t p e. (at (λ t. ended (state t) ≡ false → (0 < length (next t)) × (0 < rank t)) alive t p e).1;
-  falls = at (λ t. All (λ u. rank u < rank t) (next t)) falls;
+  falls = at (λ t. AllByRecursion (λ u. rank u < rank t) (next t)) falls;
   low = omega arith;
   small = omega arith;
-  five = at (λ t. All (λ x. length x ≡ 5) (words t)) five;
+  five = at (λ t. AllByRecursion (λ x. length x ≡ 5) (words t)) five;
   distinct = at (λ t. (i j : ℕ) → i < length (words t) → j < length (words t) → slice_index_or (words t) i [] ≡ slice_index_or (words t) j [] → i ≡ j) distinct;
-  coded = at (λ t. (length (code t) ≡ 5) × All (λ w. w < 2 ^ 64) (code t)) coded;
+  coded = at (λ t. (length (code t) ≡ 5) × AllByRecursion (λ w. w < 2 ^ 64) (code t)) coded;
   codes = codes;
 }

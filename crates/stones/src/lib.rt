@@ -1,3 +1,5 @@
+#![tactic(auto)]
+
 mod pile;
 mod play;
 mod stones;

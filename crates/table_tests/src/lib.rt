@@ -1,3 +1,5 @@
+#![tactic(auto)]
+
 // Cases of the table's arithmetic and of the newest policy.
 #[cfg(test)]
 mod tests {

@@ -1,3 +1,5 @@
+#![tactic(auto)]
+
 mod call;
 mod methods;
 mod perform;

@@ -17,18 +17,18 @@ pub returns-then-eq : goal.returns-then-eq
 returns-then-eq c =
     let vs = listed c.args.list.now in
     let h = c.in-Some.ensures in
-    let e = (slice_eq-Decides Decides-eqb c.text-of.result c.args.text.now c.eq.result c.eq.ensures).0 c.if-eq.true in (
+    let e = (slice_eq-Decides Decides-eqb c.text_of.result c.args.text.now c.eq.result c.eq.ensures).0 c.if-eq.true in (
       omega (arith, (nth_some vs c.loop-i.i c.in-Some.step c.in-Some.step h).0, length-map vs text_of),
-      map_at text_of vs c.loop-i.i c.in-Some.step [] h ∙ (sym c.text-of.ensures ∙ e),
+      map_at text_of vs c.loop-i.i c.in-Some.step [] h ∙ (sym c.text_of.ensures ∙ e),
     )
 
 pub loop-i-preserved : goal.loop-i-preserved
 loop-i-preserved c =
     let vs = listed c.args.list.now in
     let h = c.in-Some.ensures in
-    let same = (slice_eq-Decides Decides-eqb c.text-of.result c.args.text.now c.eq.result c.eq.ensures).1 in
+    let same = (slice_eq-Decides Decides-eqb c.text_of.result c.args.text.now c.eq.result c.eq.ensures).1 in
     below_more _ c.loop-i.i c.loop-i.invariant
-    (λ w. false≢true (sym c.if-eq.false ∙ same (c.text-of.ensures ∙ (sym (map_at text_of vs c.loop-i.i c.in-Some.step [] h) ∙ w))))
+    (λ w. false≢true (sym c.if-eq.false ∙ same (c.text_of.ensures ∙ (sym (map_at text_of vs c.loop-i.i c.in-Some.step [] h) ∙ w))))
 
 pub returns : goal.returns
 returns c =

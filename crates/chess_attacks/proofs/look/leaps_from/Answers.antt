@@ -2,13 +2,13 @@ use Rattle.std.proofs.Common.{rules}
 use Rattle.chess_attacks.specs.Look.{leapt}
 use Rattle.chess_attacks.proofs.look.leaps_from.Goals as goal
 
-pub returns-in-default : goal.returns-in-default
+pub returns-in_default : goal.returns-in_default
 unfolding leapt
-returns-in-default c = search rules
+returns-in_default c = search rules
 
-pub returns-in-default-beside : goal.returns-in-default-beside
+pub returns-in_default-beside : goal.returns-in_default-beside
 unfolding leapt
-returns-in-default-beside c = search rules
+returns-in_default-beside c = search rules
 
 pub returns-then-eq : goal.returns-then-eq
 unfolding leapt

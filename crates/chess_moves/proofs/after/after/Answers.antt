@@ -2,10 +2,10 @@ use Rattle.std.proofs.Common.{rules}
 use Rattle.chess_moves.specs.After.{after}
 use Rattle.chess_moves.proofs.after.after.Goals as goal
 
-pub returns-then-takes-passing : goal.returns-then-takes-passing
+pub returns-then-takes_passing : goal.returns-then-takes_passing
 unfolding after
-returns-then-takes-passing c = search rules
+returns-then-takes_passing c = search rules
 
-pub returns-else-takes-passing : goal.returns-else-takes-passing
+pub returns-else-takes_passing : goal.returns-else-takes_passing
 unfolding after
-returns-else-takes-passing c = search rules
+returns-else-takes_passing c = search rules

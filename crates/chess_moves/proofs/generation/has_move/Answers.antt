@@ -8,5 +8,5 @@ use Rattle.chess_moves.proofs.generation.has_move.Goals as goal
 pub returns : goal.returns
 returns c =
     let e : ltb 0 c.len.result ≡ any_move (legal_moves c.args.diagram.now)
-    = ap (ltb 0) (c.len.ensures ∙ ap (λ (vs : List Move). length vs) c.first-moves.ensures) ∙ first_some (legal_moves c.args.diagram.now) in
+    = ap (ltb 0) (c.len.ensures ∙ ap (λ (vs : List Move). length vs) c.first_moves.ensures) ∙ first_some (legal_moves c.args.diagram.now) in
     record { exact = e; meaning = Decides-at (ltb 0 c.len.result) _ e (any_means c.args.diagram.now) }

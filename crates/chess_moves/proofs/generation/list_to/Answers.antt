@@ -7,7 +7,7 @@ use Rattle.chess_moves.specs.Moves.{Adds, goes, tries, moves_to, passing_of}
 use Rattle.chess_moves.proofs.Adding.{adds_none, adds_more, adds_full, adds_as}
 use Rattle.chess_moves.proofs.Parts.{to_none, to_more, to-rest}
 use Rattle.chess_moves.proofs.generation.list_to.Goals as goal
-use Rattle.chess_moves.proofs.generation.list_to.Goals.{in-Some+then-goes, in-Some+else-goes, in-default}
+use Rattle.chess_moves.proofs.generation.list_to.Goals.{in-Some+then-goes, in-Some+else-goes, in_default}
 
 pub loop-number-init : goal.loop-number-init
 loop-number-init c =
@@ -15,10 +15,10 @@ loop-number-init c =
     (sym (to_none c.args.diagram.now.board (passing_of c.args.diagram.now) c.args.man c.args.from.number (bit c.args.reach) (bit c.args.steps)))
     (adds_none c.args.list.now)
 
-pub returns-then-is-full : goal.returns-then-is-full
-returns-then-is-full c =
+pub returns-then-is_full : goal.returns-then-is_full
+returns-then-is_full c =
     let r = to-rest c.args.diagram.now.board (passing_of c.args.diagram.now) c.args.man (bit c.args.reach) (bit c.args.steps) c.args.from.number c.loop-number.number (omega (arith, c.loop-number-test.true)) in
-    adds_as c.args.list.now _ _ c.loop-number.list (sym r.1) (adds_full c.args.list.now _ r.0 c.loop-number.list c.loop-number.invariant c.if-is-full.ensures)
+    adds_as c.args.list.now _ _ c.loop-number.list (sym r.1) (adds_full c.args.list.now _ r.0 c.loop-number.list c.loop-number.invariant c.if-is_full.ensures)
 
 pub loop-number-preserved : goal.loop-number-preserved
 loop-number-preserved c =
@@ -29,15 +29,15 @@ loop-number-preserved c =
     elim c.match-new.branch [
       | in-Some+then-goes w ↦
           subst (Adds c.args.list.now _) (sym w.list-is)
-          (adds_as c.args.list.now (so_far ++ try w.in-Some.to.number) _ w.list-tries.new.list
+          (adds_as c.args.list.now (so_far ++ try w.in-Some.to.number) _ w.list_tries.new.list
           (ap (λ n. so_far ++ try n) w.in-Some.ensures ∙ sym (more true (w.if-goes.ensures ∙ ap go w.in-Some.ensures)))
-          (adds_more c.args.list.now so_far _ c.loop-number.list w.list-tries.new.list c.loop-number.invariant w.list-tries.ensures))
+          (adds_more c.args.list.now so_far _ c.loop-number.list w.list_tries.new.list c.loop-number.invariant w.list_tries.ensures))
       | in-Some+else-goes w ↦
           subst (Adds c.args.list.now _) (sym w.list-is)
           (adds_as c.args.list.now so_far _ c.loop-number.list
           (sym (append-nil so_far) ∙ sym (more false (w.if-goes.ensures ∙ ap go w.in-Some.ensures)))
           c.loop-number.invariant)
-      | in-default w ↦ absurd (let z : ⊥ = omega (arith, w.in-default.ensures, c.loop-number-test.true) in z)
+      | in_default w ↦ absurd (let z : ⊥ = omega (arith, w.in_default.ensures, c.loop-number-test.true) in z)
     ]
 
 pub returns : goal.returns

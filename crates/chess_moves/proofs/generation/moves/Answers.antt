@@ -8,7 +8,7 @@ use Rattle.chess_moves.proofs.generation.moves.Goals as goal
 pub returns : goal.returns
 returns c =
     record {
-      cut = c.first-moves.ensures;
-      all = λ h k. c.first-moves.ensures ∙ take_all 415 (legal_moves c.args.diagram.now) (omega (arith, few-moves c.args.diagram.now h k));
+      cut = c.first_moves.ensures;
+      all = λ h k. c.first_moves.ensures ∙ take_all 415 (legal_moves c.args.diagram.now) (omega (arith, few-moves c.args.diagram.now h k));
       legal = lists c.args.diagram.now;
     }

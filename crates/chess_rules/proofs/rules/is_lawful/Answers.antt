@@ -6,5 +6,5 @@ use Rattle.chess_rules.proofs.rules.is_lawful.Goals as goal
 
 pub returns : goal.returns
 returns c =
-    let e : c.keeps-rules.result ≡ lawful c.args.diagram.now = c.keeps-rules.ensures.kept ∙ lawful_is c.args.diagram.now c.keeps-rules.ensures.whole in
-    record { exact = e; meaning = Decides-at c.keeps-rules.result _ e (lawful_means c.args.diagram.now) }
+    let e : c.keeps_rules.result ≡ lawful c.args.diagram.now = c.keeps_rules.ensures.kept ∙ lawful_is c.args.diagram.now c.keeps_rules.ensures.whole in
+    record { exact = e; meaning = Decides-at c.keeps_rules.result _ e (lawful_means c.args.diagram.now) }

@@ -50,6 +50,6 @@ pub returns-in-p : goal.returns-in-p
 unfolding man_of
 returns-in-p c = search rules
 
-pub returns-in-default : goal.returns-in-default
+pub returns-in_default : goal.returns-in_default
 unfolding man_of
-returns-in-default c = search rules
+returns-in_default c = search rules

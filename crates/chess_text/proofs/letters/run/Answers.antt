@@ -6,10 +6,10 @@ pub returns-in-1-to-8 : goal.returns-in-1-to-8
 unfolding run_of
 returns-in-1-to-8 c = search rules
 
-pub returns-in-default : goal.returns-in-default
+pub returns-in_default : goal.returns-in_default
 unfolding run_of
-returns-in-default c = search rules
+returns-in_default c = search rules
 
-pub returns-in-default·2 : goal.returns-in-default·2
+pub returns-in_default-2 : goal.returns-in_default-2
 unfolding run_of
-returns-in-default·2 c = search rules
+returns-in_default-2 c = search rules

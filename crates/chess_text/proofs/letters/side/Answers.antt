@@ -10,6 +10,6 @@ pub returns-in-b : goal.returns-in-b
 unfolding side_of
 returns-in-b c = search rules
 
-pub returns-in-default : goal.returns-in-default
+pub returns-in_default : goal.returns-in_default
 unfolding side_of
-returns-in-default c = search rules
+returns-in_default c = search rules

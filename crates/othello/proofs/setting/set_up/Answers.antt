@@ -7,13 +7,13 @@ use Rattle.game.specs.declared.decline.Decline.TheVariants.{Aim, Empties}
 use Rattle.othello.specs.Setting.{reading_of, no_aim, departs, too_empty}
 use Rattle.othello.proofs.setting.set_up.Goals as goal
 
-pub returns-then-aim-gt-LARGEST-AIM : goal.returns-then-aim-gt-LARGEST-AIM
-returns-then-aim-gt-LARGEST-AIM c =
+pub returns-then-aim-gt-LARGEST_AIM : goal.returns-then-aim-gt-LARGEST_AIM
+returns-then-aim-gt-LARGEST_AIM c =
     let e : ltb 64 c.args.aim ≡ true = lt-ltb 64 c.args.aim (omega arith) in
     record { exact = simp e; meaning = no_aim (omega arith) }
 
-pub returns-then-empties-gt-MOST-EMPTIES : goal.returns-then-empties-gt-MOST-EMPTIES
-returns-then-empties-gt-MOST-EMPTIES c =
+pub returns-then-empties-gt-MOST_EMPTIES : goal.returns-then-empties-gt-MOST_EMPTIES
+returns-then-empties-gt-MOST_EMPTIES c =
     let e : ltb 64 c.args.aim ≡ false = le-ltb 64 c.args.aim (omega arith) in
     let f : ltb 14 (empties c.in-Ok.diagram) ≡ true = lt-ltb 14 _ (omega (arith, c.empties.ensures)) in
     let r = c.in-Ok.ensures in

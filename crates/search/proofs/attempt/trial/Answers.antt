@@ -22,15 +22,15 @@ pub returns : goal.returns
 returns g c =
     let S : Storing = g.T.Table.stored in
     let h : Held = g.T.Table.held c.args.table.now in
-    let h' : Held = g.T.Table.held c.try-out.new.table in
+    let h' : Held = g.T.Table.held c.try_out.new.table in
     let t : Tree = g.G.Game.current c.args.game.now in
-    let r : Trial S h t c.args.budget c.try-out.result h' = c.try-out.ensures.tried in
+    let r : Trial S h t c.args.budget c.try_out.result h' = c.try_out.ensures.tried in
     let taken : trial_decline c.args.budget (length c.args.records.now) ≡ None = search rules in
     record {
-      at = c.try-out.ensures.at;
-      path = c.try-out.ensures.path;
+      at = c.try_out.ensures.at;
+      path = c.try_out.ensures.path;
       right = means S (record { own = g.met.T.Table.own; other = g.met.T.Table.other })
           g.G.Game.positions (ranging g.met.G.Game.lawful)
-          h t c.args.budget c.try-out.result h' (g.met.G.Game.within c.args.game.now) r;
+          h t c.args.budget c.try_out.result h' (g.met.G.Game.within c.args.game.now) r;
       tried = (taken, r);
     }

@@ -11,11 +11,11 @@ loop-i-preserved g c =
     let f : Tree → Pair = listed (g.T.Table.held c.args.table.now) in
     let low : c.loop-i.i < length us = omega (arith, c.requires, c.loop-i-test.true) in
     let here : c.loop-i.i < length c.loop-i.places = omega arith in
-    let is : c.listed-move.result ≡ f (get_or us c.loop-i.i nowhere) =
-    c.listed-move.ensures.pair ∙ ap (λ (t : Tree). f (get_or (next t) c.loop-i.i nowhere)) c.loop-i.invariant.0 in (
-      c.listed-move.ensures.at ∙ c.loop-i.invariant.0,
-      c.listed-move.ensures.path ∙ c.loop-i.invariant.1,
-      take_more_set c.loop-i.places c.loop-i.i c.listed-move.result here
+    let is : c.listed_move.result ≡ f (get_or us c.loop-i.i nowhere) =
+    c.listed_move.ensures.pair ∙ ap (λ (t : Tree). f (get_or (next t) c.loop-i.i nowhere)) c.loop-i.invariant.0 in (
+      c.listed_move.ensures.at ∙ c.loop-i.invariant.0,
+      c.listed_move.ensures.path ∙ c.loop-i.invariant.1,
+      take_more_set c.loop-i.places c.loop-i.i c.listed_move.result here
           ∙ ap₂ (λ (l : List Pair) (p : Pair). l ++ (p ∷ [])) c.loop-i.invariant.2 is
           ∙ sym (map_more f us c.loop-i.i nowhere low),
     )

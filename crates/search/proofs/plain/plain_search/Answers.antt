@@ -17,7 +17,7 @@ pub returns-in-None : goal.returns-in-None
 returns-in-None g c =
     let t₀ : Tree = g.G.Game.current c.args.game.now in
     let k = at-look c.loop-turn.turn (contents c.loop-turn.stack) _ _ _ t₀ _ c.in-Look.is c.loop-turn.invariant.0 in
-    let back = c.take-all-back.ensures.path ∙ leads-back (contents c.loop-turn.stack) _ _ t₀ _ k.1 in
+    let back = c.take_all_back.ensures.path ∙ leads-back (contents c.loop-turn.stack) _ _ t₀ _ k.1 in
     record { at = ap (λ (x : Tree × List Tree). x.0) back; path = ap (λ (x : Tree × List Tree). x.1) back; found = c.in-None.ensures.goes (contents c.loop-turn.stack) t₀ _ k.0 }
 
 pub returns-in-None-pop : goal.returns-in-None-pop
@@ -38,22 +38,22 @@ loop-turn-preserved-in-Some g c = (
 
 pub loop-turn-smaller-in-Try : goal.loop-turn-smaller-in-Try
 loop-turn-smaller-in-Try g c =
-    (turned _ (Try c.in-Try.entry) _ _ _ _ _ _ _ _ _ _ _ _ c.in-Try.is refl c.loop-turn.invariant.0 (c.try-next-turn.ensures.goes _)).1
+    (turned _ (Try c.in-Try.entry) _ _ _ _ _ _ _ _ _ _ _ _ c.in-Try.is refl c.loop-turn.invariant.0 (c.try_next-turn.ensures.goes _)).1
 
 pub loop-turn-preserved-in-Try : goal.loop-turn-preserved-in-Try
 loop-turn-preserved-in-Try g c = (
-  (turned _ (Try c.in-Try.entry) _ _ _ _ _ _ _ _ _ _ _ _ c.in-Try.is refl c.loop-turn.invariant.0 (c.try-next-turn.ensures.goes _)).0,
-  c.try-next-turn.ensures.room,
+  (turned _ (Try c.in-Try.entry) _ _ _ _ _ _ _ _ _ _ _ _ c.in-Try.is refl c.loop-turn.invariant.0 (c.try_next-turn.ensures.goes _)).0,
+  c.try_next-turn.ensures.room,
   c.loop-turn.invariant.2,
 )
 
 pub loop-turn-smaller : goal.loop-turn-smaller
 loop-turn-smaller g c =
-    (turned _ (Back c.in-Back.won) _ _ _ _ _ _ _ _ _ _ _ _ c.in-Back.is c.in-Some-pop.ensures.popped c.loop-turn.invariant.0 (c.come-back.ensures _ _)).1
+    (turned _ (Back c.in-Back.won) _ _ _ _ _ _ _ _ _ _ _ _ c.in-Back.is c.in-Some-pop.ensures.popped c.loop-turn.invariant.0 (c.come_back.ensures _ _)).1
 
 pub loop-turn-preserved : goal.loop-turn-preserved
 loop-turn-preserved g c = (
-  (turned _ (Back c.in-Back.won) _ _ _ _ _ _ _ _ _ _ _ _ c.in-Back.is c.in-Some-pop.ensures.popped c.loop-turn.invariant.0 (c.come-back.ensures _ _)).0,
+  (turned _ (Back c.in-Back.won) _ _ _ _ _ _ _ _ _ _ _ _ c.in-Back.is c.in-Some-pop.ensures.popped c.loop-turn.invariant.0 (c.come_back.ensures _ _)).0,
   c.pop.ensures.room ∙ c.loop-turn.invariant.1,
   c.loop-turn.invariant.2,
 )

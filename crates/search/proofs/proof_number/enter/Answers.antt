@@ -11,5 +11,5 @@ returns g c =
     let at = g.met.G.Game.within c.args.game.now in
     let high : 0 < length (next t) → 0 < rank t = λ l. omega (arith, all-at (λ u. rank u < rank t) (next t) 0 nowhere (g.met.G.Game.lawful.falls t at) l) in
     entered g.T.Table.stored g.G.Game.width c.args.thresholds t _ _ _ _ _ _ _ (g.met.G.Game.lawful.narrow t at) high
-    c.count.ensures (c.side_of.ensures ∙ ap mover (c.state.ensures ∙ ap state c.list-pairs.ensures.at)) c.list-pairs.ensures.pairs c.requires
-    _ _ c.list-pairs.ensures.at c.list-pairs.ensures.path
+    c.count.ensures (c.side_of.ensures ∙ ap mover (c.state.ensures ∙ ap state c.list_pairs.ensures.at)) c.list_pairs.ensures.pairs c.requires
+    _ _ c.list_pairs.ensures.at c.list_pairs.ensures.path

@@ -21,7 +21,7 @@ pub returns-then-rest-eq0 : goal.returns-then-rest-eq0
 returns-then-rest-eq0 g c =
     let s = stopping g.T.Table.stored _ c.loop-step.step c.in-Enter.thresholds _ _ _ _ _ _ _ _ _ c.in-Enter.is c.if-rest-eq0.true
     c.loop-step.invariant.0 c.loop-step.invariant.1 in
-    let back = c.take-all-back.ensures.path ∙ under_back _ _ (contents c.loop-step.stack) _ _ _ _ s.0 in
+    let back = c.take_all_back.ensures.path ∙ under_back _ _ (contents c.loop-step.stack) _ _ _ _ s.0 in
     record { at = ap (λ (x : Tree × List Tree). x.0) back; path = ap (λ (x : Tree × List Tree). x.1) back; run = s.1 }
 
 pub enter-requires : goal.enter-requires
@@ -30,15 +30,15 @@ enter-requires g c =
     let at = g.met.G.Game.within c.loop-step.game in
     let high : 0 < length (next t) → 0 < rank t = λ l. omega (arith, all-at (λ u. rank u < rank t) (next t) 0 nowhere (g.met.G.Game.lawful.falls t at) l) in
     enter_asks _ c.loop-step.step _ t _ c.loop-step.records _ _ c.loop-step.invariant.0 (omega arith) c.in-Enter.thresholds _ c.in-Enter.is
-    (g.met.G.Game.lawful.narrow t at) high c.first-free.ensures
+    (g.met.G.Game.lawful.narrow t at) high c.first_free.ensures
 
 pub work-step-requires : goal.work-step-requires
 work-step-requires g c =
     let a = work_asks _ c.loop-step.step _ _ _ c.loop-step.records _ _ c.loop-step.invariant.0 (omega arith) c.in-Work.frame c.in-Work.is in
     record { room = c.loop-step.invariant.2; order = a.0; inside = a.1 }
 
-pub hand-back-requires : goal.hand-back-requires
-hand-back-requires g c =
+pub hand_back-requires : goal.hand_back-requires
+hand_back-requires g c =
     hand_asks _ c.loop-step.step _ _ _ c.loop-step.records _ _ c.loop-step.invariant.0 (omega arith) c.in-Back.pair c.in-Some.frame _
     c.in-Back.is c.in-Some.ensures.popped
 
@@ -52,13 +52,13 @@ pub loop-step-smaller-else-rest-eq0 : goal.loop-step-smaller-else-rest-eq0
 loop-step-smaller-else-rest-eq0 g c =
     (went g.T.Table.stored _ c.loop-step.step (Enter c.in-Enter.thresholds) _ _ _ _ _ _ _ _ _ _ _ _ _ _ _ _ _ _
     c.in-Enter.is refl (one_less c.loop-step.rest c.if-rest-eq0.false) c.loop-step.invariant.0 c.loop-step.invariant.1
-    (c.enter.ensures (contents c.loop-step.stack) (c.loop-step.rest - 1) c.first-free.ensures)).2
+    (c.enter.ensures (contents c.loop-step.stack) (c.loop-step.rest - 1) c.first_free.ensures)).2
 
 pub loop-step-preserved-else-rest-eq0 : goal.loop-step-preserved-else-rest-eq0
 loop-step-preserved-else-rest-eq0 g c =
     let k = went g.T.Table.stored _ c.loop-step.step (Enter c.in-Enter.thresholds) _ _ _ _ _ _ _ _ _ _ _ _ _ _ _ _ _ _
     c.in-Enter.is refl (one_less c.loop-step.rest c.if-rest-eq0.false) c.loop-step.invariant.0 c.loop-step.invariant.1
-    (c.enter.ensures (contents c.loop-step.stack) (c.loop-step.rest - 1) c.first-free.ensures) in
+    (c.enter.ensures (contents c.loop-step.stack) (c.loop-step.rest - 1) c.first_free.ensures) in
     (k.0, k.1, c.loop-step.invariant.2, omega arith)
 
 pub loop-step-smaller-in-Work : goal.loop-step-smaller-in-Work
@@ -76,11 +76,11 @@ pub loop-step-smaller : goal.loop-step-smaller
 loop-step-smaller g c =
     (went g.T.Table.stored _ c.loop-step.step (Back c.in-Back.pair) _ _ _ _ _ _ _ _ _ _ _ _ _ _ _ _ _ _
     c.in-Back.is c.in-Some.ensures.popped refl c.loop-step.invariant.0 c.loop-step.invariant.1
-    (c.hand-back.ensures.goes g.T.Table.stored _ _ _)).2
+    (c.hand_back.ensures.goes g.T.Table.stored _ _ _)).2
 
 pub loop-step-preserved : goal.loop-step-preserved
 loop-step-preserved g c =
     let k = went g.T.Table.stored _ c.loop-step.step (Back c.in-Back.pair) _ _ _ _ _ _ _ _ _ _ _ _ _ _ _ _ _ _
     c.in-Back.is c.in-Some.ensures.popped refl c.loop-step.invariant.0 c.loop-step.invariant.1
-    (c.hand-back.ensures.goes g.T.Table.stored _ _ _) in
+    (c.hand_back.ensures.goes g.T.Table.stored _ _ _) in
     (k.0, k.1, c.pop.ensures.room ∙ c.loop-step.invariant.2, c.loop-step.invariant.3)

@@ -11,11 +11,11 @@ returns g c =
     let S = g.T.Table.stored in
     let t : Tree = G.current c.args.game.now in
     let p = played c.play.result c.args.i t (G.earlier c.args.game.now) (G.current c.play.new.self) (G.earlier c.play.new.self) c.play.ensures c.requires.number in
-    let b = taken_back c.take-back.result (G.current c.try-out-answer.new.game) (G.earlier c.try-out-answer.new.game) (G.current c.take-back.new.self) (G.earlier c.take-back.new.self) t (G.earlier c.args.game.now) c.take-back.ensures (c.try-out-answer.ensures.path ∙ p.1) in
-    let r = c.try-out-answer.ensures.tried in
+    let b = taken_back c.take_back.result (G.current c.try_out-answer.new.game) (G.earlier c.try_out-answer.new.game) (G.current c.take_back.new.self) (G.earlier c.take_back.new.self) t (G.earlier c.args.game.now) c.take_back.ensures (c.try_out-answer.ensures.path ∙ p.1) in
+    let r = c.try_out-answer.ensures.tried in
     record {
       at = b.0;
       path = b.1;
-      tried = subst (λ (x : Tree). Trial S (g.T.Table.held c.args.table.now) x c.args.budget c.try-out-answer.result (g.T.Table.held c.try-out-answer.new.table)) p.0 r;
+      tried = subst (λ (x : Tree). Trial S (g.T.Table.held c.args.table.now) x c.args.budget c.try_out-answer.result (g.T.Table.held c.try_out-answer.new.table)) p.0 r;
       cost = affordable r;
     }

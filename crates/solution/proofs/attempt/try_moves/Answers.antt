@@ -14,32 +14,32 @@ loop-i-preserved g c =
     let S = g.T.Table.stored in
     let t : Tree = g.G.Game.current c.args.game.now in
     let h = g.T.Table.held c.loop-i.table in
-    let h' = g.T.Table.held c.try-move-answer.new.table in
-    let a = c.try-move-answer.result in
+    let h' = g.T.Table.held c.try_move-answer.new.table in
+    let a = c.try_move-answer.result in
     let low : c.loop-i.i < length (next t) = omega (arith, c.count-i-end.ensures, c.loop-i-test.true) in
-    let r = subst (λ (x : Tree). Trial S h (get_or (next x) c.loop-i.i nowhere) c.args.budget a h') c.loop-i.invariant.0 c.try-move-answer.ensures.tried in
+    let r = subst (λ (x : Tree). Trial S h (get_or (next x) c.loop-i.i nowhere) c.args.budget a h') c.loop-i.invariant.0 c.try_move-answer.ensures.tried in
     let v = value-won a.verdict c.in-Some.won (sym c.value.ensures ∙ c.in-Some.is) in (
-      c.try-move-answer.ensures.at ∙ c.loop-i.invariant.0,
-      c.try-move-answer.ensures.path ∙ c.loop-i.invariant.1,
-      omega (arith, c.try-move-answer.ensures.cost, c.loop-i.invariant.2, c.requires.budget),
+      c.try_move-answer.ensures.at ∙ c.loop-i.invariant.0,
+      c.try_move-answer.ensures.path ∙ c.loop-i.invariant.1,
+      omega (arith, c.try_move-answer.ensures.cost, c.loop-i.invariant.2, c.requires.budget),
       trying_next S c.args.budget (g.T.Table.held c.args.table.now) (moves t) c.loop-i.i c.loop-i.flags c.loop-i.sum h h' a c.in-Some.won low (omega arith) c.loop-i.invariant.3 r v,
     )
 
-pub returns-in-default : goal.returns-in-default
-returns-in-default g c =
+pub returns-in_default : goal.returns-in_default
+returns-in_default g c =
     let S = g.T.Table.stored in
     let t : Tree = g.G.Game.current c.args.game.now in
     let h = g.T.Table.held c.loop-i.table in
-    let h' = g.T.Table.held c.try-move-answer.new.table in
-    let a = c.try-move-answer.result in
+    let h' = g.T.Table.held c.try_move-answer.new.table in
+    let a = c.try_move-answer.result in
     let low : c.loop-i.i < length (next t) = omega (arith, c.count-i-end.ensures, c.loop-i-test.true) in
-    let r = subst (λ (x : Tree). Trial S h (get_or (next x) c.loop-i.i nowhere) c.args.budget a h') c.loop-i.invariant.0 c.try-move-answer.ensures.tried in
-    let v = value-spent a.verdict (sym c.value.ensures ∙ c.in-default.is) in
+    let r = subst (λ (x : Tree). Trial S h (get_or (next x) c.loop-i.i nowhere) c.args.budget a h') c.loop-i.invariant.0 c.try_move-answer.ensures.tried in
+    let v = value-spent a.verdict (sym c.value.ensures ∙ c.in_default.is) in
     record {
-      at = c.try-move-answer.ensures.at ∙ c.loop-i.invariant.0;
-      path = c.try-move-answer.ensures.path ∙ c.loop-i.invariant.1;
+      at = c.try_move-answer.ensures.at ∙ c.loop-i.invariant.0;
+      path = c.try_move-answer.ensures.path ∙ c.loop-i.invariant.1;
       tried = trying_stop S c.args.budget (g.T.Table.held c.args.table.now) (moves t) c.loop-i.i c.loop-i.flags c.loop-i.sum h h' a low c.loop-i.invariant.3 r v;
-      sum = omega (arith, c.try-move-answer.ensures.cost, c.loop-i.invariant.2, c.requires.budget, c.requires.count, low);
+      sum = omega (arith, c.try_move-answer.ensures.cost, c.loop-i.invariant.2, c.requires.budget, c.requires.count, low);
     }
 
 pub returns : goal.returns

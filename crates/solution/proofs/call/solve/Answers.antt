@@ -16,15 +16,15 @@ returns g c =
     let n = g.met.T.Table in
     let S = g.T.Table.stored in
     let t : Tree = g.G.Game.current c.args.game.now in
-    let e : declined t c.args.intended c.args.budget (length c.args.records.now) (length c.args.buffer.now) ≡ None = sym c.refusal.ensures ∙ c.in-default.is in
+    let e : declined t c.args.intended c.args.budget (length c.args.records.now) (length c.args.buffer.now) ≡ None = sym c.refusal.ensures ∙ c.in_default.is in
     record {
-      at = c.write-solution.ensures.at;
-      path = c.write-solution.ensures.path;
-      answered = (e, c.write-solution.ensures.solved);
-      right = means g.G.Game.positions S (g.T.Table.held c.args.table.now) t c.args.intended c.args.budget c.args.buffer.now c.write-solution.result
-          (g.T.Table.held c.write-solution.new.table) c.write-solution.new.buffer
+      at = c.write_solution.ensures.at;
+      path = c.write_solution.ensures.path;
+      answered = (e, c.write_solution.ensures.solved);
+      right = means g.G.Game.positions S (g.T.Table.held c.args.table.now) t c.args.intended c.args.budget c.args.buffer.now c.write_solution.result
+          (g.T.Table.held c.write_solution.new.table) c.write_solution.new.buffer
           (solutions_fit m.lawful S)
           (solutions_are_right_lem m.lawful S (trials_are_right_lem g.G.Game.positions (ranging m.lawful) S (record { own = n.own; other = n.other })))
           (spent-is-meant S (trials.spent-is-meant S)) (m.within c.args.game.now)
-          (attacked t c.args.intended c.args.budget (length c.args.records.now) (length c.args.buffer.now) e) c.write-solution.ensures.solved;
+          (attacked t c.args.intended c.args.budget (length c.args.records.now) (length c.args.buffer.now) e) c.write_solution.ensures.solved;
     }

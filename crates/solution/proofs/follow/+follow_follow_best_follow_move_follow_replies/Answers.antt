@@ -22,8 +22,8 @@ follow-returns-in-NotWon g t c =
 
 -- a move
 
-pub follow-move-follow-after-requires : goal.follow-move-follow-after-requires
-follow-move-follow-after-requires g t c κs within =
+pub follow_move-follow-after-requires : goal.follow_move-follow-after-requires
+follow_move-follow-after-requires g t c κs within =
     let G = g.G.Game in
     let u : Tree = G.current c.args.game.now in
     let i = c.args.i in
@@ -32,14 +32,14 @@ follow-move-follow-after-requires g t c κs within =
     let rk : rank (G.current c.play.new.self) ≡ rank (get_or (next u) i nowhere) = ap rank pl.0 in
     (omega (arith, c.decreases, fl, rk), (within.0, (within.1, (c.requires.records, (c.requires.flags, (c.requires.budget, (c.requires.fair, (omega (arith, c.requires.ply, fl, rk), c.requires.buffer))))))))
 
-pub follow-move-returns : goal.follow-move-returns
-follow-move-returns g t c =
+pub follow_move-returns : goal.follow_move-returns
+follow_move-returns g t c =
     let G = g.G.Game in
     let u : Tree = G.current c.args.game.now in
     let i = c.args.i in
     let pl = played c.play.result i u (G.earlier c.args.game.now) (G.current c.play.new.self) (G.earlier c.play.new.self) c.play.ensures c.requires.number in
-    let bk = taken_back c.take-back.result (G.current c.follow-after.new.game) (G.earlier c.follow-after.new.game) (G.current c.take-back.new.self) (G.earlier c.take-back.new.self) u (G.earlier c.args.game.now)
-    c.take-back.ensures (c.follow-after.ensures.path ∙ pl.1) in
+    let bk = taken_back c.take_back.result (G.current c.follow-after.new.game) (G.earlier c.follow-after.new.game) (G.current c.take_back.new.self) (G.earlier c.take_back.new.self) u (G.earlier c.args.game.now)
+    c.take_back.ensures (c.follow-after.ensures.path ∙ pl.1) in
     record {
       at = bk.0;
       path = bk.1;
@@ -49,8 +49,8 @@ follow-move-returns g t c =
 
 -- an attacker's position
 
-pub follow-best-follow-move-after-requires : goal.follow-best-follow-move-after-requires
-follow-best-follow-move-after-requires g t c κs within =
+pub follow_best-follow_move-after-requires : goal.follow_best-follow_move-after-requires
+follow_best-follow_move-after-requires g t c κs within =
     let G = g.G.Game in
     let u : Tree = G.current c.args.game.now in
     let j = c.in-On.chosen in
@@ -81,33 +81,33 @@ follow-best-follow-move-after-requires g t c κs within =
       ),
     )
 
-pub follow-best-returns-in-On : goal.follow-best-returns-in-On
-follow-best-returns-in-On g t c =
+pub follow_best-returns-in-On : goal.follow_best-returns-in-On
+follow_best-returns-in-On g t c =
     let G = g.G.Game in
     let S = g.T.Table.stored in
     let u : Tree = G.current c.args.game.now in
     let h = g.T.Table.held c.args.table.now in
     let h1 = g.T.Table.held c.attack.new.table in
-    let h2 = g.T.Table.held c.follow-move-after.new.table in
+    let h2 = g.T.Table.held c.follow_move-after.new.table in
     let j = c.in-On.chosen in
     let at : G.current c.attack.new.game ≡ u = c.attack.ensures.at in
-    let f = subst (λ (x : Tree). Followed S c.args.budget (c.args.ply + 1) None (get_or (next x) j nowhere) h1 c.attack.new.buffer c.attack.new.tally c.follow-move-after.result h2 c.follow-move-after.new.buffer c.follow-move-after.new.tally)
-    at c.follow-move-after.ensures.follows in
+    let f = subst (λ (x : Tree). Followed S c.args.budget (c.args.ply + 1) None (get_or (next x) j nowhere) h1 c.attack.new.buffer c.attack.new.tally c.follow_move-after.result h2 c.follow_move-after.new.buffer c.follow_move-after.new.tally)
+    at c.follow_move-after.ensures.follows in
     record {
-      at = c.follow-move-after.ensures.at ∙ at;
-      path = c.follow-move-after.ensures.path ∙ c.attack.ensures.path;
-      follows = win_followed S c.args.budget c.args.ply c.args.intended u h c.args.buffer.now c.args.tally.now c.in-On.sum j h1 h2 c.attack.new.buffer c.follow-move-after.new.buffer c.attack.new.tally c.follow-move-after.new.tally
-          c.follow-move-after.result c.requires.attacker c.in-On.ensures.attacks f;
+      at = c.follow_move-after.ensures.at ∙ at;
+      path = c.follow_move-after.ensures.path ∙ c.attack.ensures.path;
+      follows = win_followed S c.args.budget c.args.ply c.args.intended u h c.args.buffer.now c.args.tally.now c.in-On.sum j h1 h2 c.attack.new.buffer c.follow_move-after.new.buffer c.attack.new.tally c.follow_move-after.new.tally
+          c.follow_move-after.result c.requires.attacker c.in-On.ensures.attacks f;
     }
 
 -- a defender's position
 
-pub follow-replies-loop-i-init : goal.follow-replies-loop-i-init
-follow-replies-loop-i-init g t c =
+pub follow_replies-loop-i-init : goal.follow_replies-loop-i-init
+follow_replies-loop-i-init g t c =
     (refl, refl, c.requires.fair, replying_start g.T.Table.stored c.args.budget c.args.ply (g.G.Game.current c.args.game.now) (g.T.Table.held c.args.table.now) c.args.buffer.now c.args.tally.now)
 
-pub follow-replies-write-move-requires : goal.follow-replies-write-move-requires
-follow-replies-write-move-requires g t c =
+pub follow_replies-write_move-requires : goal.follow_replies-write_move-requires
+follow_replies-write_move-requires g t c =
     let u : Tree = g.G.Game.current c.args.game.now in
     let v : Tree = g.G.Game.current c.loop-i.game in
     let at : length (next v) ≡ length (next u) = ap (λ (x : Tree). length (next x)) c.loop-i.invariant.0 in
@@ -117,15 +117,15 @@ follow-replies-write-move-requires g t c =
       number = omega (arith, at, length-texts (moves v), c.count-i-end.ensures, c.loop-i-test.true);
     }
 
-pub follow-replies-returns-then-not-write-move : goal.follow-replies-returns-then-not-write-move
-follow-replies-returns-then-not-write-move g t c =
+pub follow_replies-returns-then-not-write_move : goal.follow_replies-returns-then-not-write_move
+follow_replies-returns-then-not-write_move g t c =
     let u : Tree = g.G.Game.current c.args.game.now in
     let i = c.loop-i.i in
     let at : g.G.Game.current c.loop-i.game ≡ u = c.loop-i.invariant.0 in
     let low : i < length (next u) = omega (arith, c.count-i-end.ensures, c.loop-i-test.true) in
-    let b2 = c.write-move.new.buffer in
-    let t2 = c.write-move.new.tally in
-    let w = subst (λ (x : Tree). Writes (reply_line c.args.ply (get_or (words x) i []) ∷ []) c.loop-i.buffer c.loop-i.tally false b2 t2) at c.if-not-write-move.ensures in
+    let b2 = c.write_move.new.buffer in
+    let t2 = c.write_move.new.tally in
+    let w = subst (λ (x : Tree). Writes (reply_line c.args.ply (get_or (words x) i []) ∷ []) c.loop-i.buffer c.loop-i.tally false b2 t2) at c.if-not-write_move.ensures in
     record {
       at = at;
       path = c.loop-i.invariant.1;
@@ -133,14 +133,14 @@ follow-replies-returns-then-not-write-move g t c =
           c.loop-i.invariant.3 low o b2 t2 c.requires.defender w;
     }
 
-pub follow-replies-follow-move-after-requires : goal.follow-replies-follow-move-after-requires
-follow-replies-follow-move-after-requires g t c κs within =
+pub follow_replies-follow_move-after-requires : goal.follow_replies-follow_move-after-requires
+follow_replies-follow_move-after-requires g t c κs within =
     let u : Tree = g.G.Game.current c.args.game.now in
     let v : Tree = g.G.Game.current c.loop-i.game in
     let at : v ≡ u = c.loop-i.invariant.0 in
     let rk : rank v ≡ rank u = ap rank at in
     let n : length (next v) ≡ length (next u) = ap (λ (x : Tree). length (next x)) at in
-    let w = c.if-not-write-move.ensures in (
+    let w = c.if-not-write_move.ensures in (
       omega (arith, c.decreases, rk),
       (
         within.0,
@@ -153,8 +153,8 @@ follow-replies-follow-move-after-requires g t c κs within =
               (
                 c.requires.budget,
                 (
-                  fair-counted (reply_line c.args.ply (get_or (words v) c.loop-i.i []) ∷ []) c.loop-i.tally c.write-move.new.tally w.1.tally c.loop-i.invariant.2,
-                  (omega (arith, c.requires.ply, rk), (omega (arith, c.requires.buffer, c.loop-i.auto.buffer, c.write-move.auto.buffer), omega (arith, n, c.count-i-end.ensures, c.loop-i-test.true))),
+                  fair-counted (reply_line c.args.ply (get_or (words v) c.loop-i.i []) ∷ []) c.loop-i.tally c.write_move.new.tally w.1.tally c.loop-i.invariant.2,
+                  (omega (arith, c.requires.ply, rk), (omega (arith, c.requires.buffer, c.loop-i.auto.buffer, c.write_move.auto.buffer), omega (arith, n, c.count-i-end.ensures, c.loop-i-test.true))),
                 ),
               ),
             ),
@@ -163,50 +163,50 @@ follow-replies-follow-move-after-requires g t c κs within =
       ),
     )
 
-pub follow-replies-returns-then-not-is-done : goal.follow-replies-returns-then-not-is-done
-follow-replies-returns-then-not-is-done g t c =
+pub follow_replies-returns-then-not-is_done : goal.follow_replies-returns-then-not-is_done
+follow_replies-returns-then-not-is_done g t c =
     let u : Tree = g.G.Game.current c.args.game.now in
     let i = c.loop-i.i in
     let k = c.args.ply in
     let at : g.G.Game.current c.loop-i.game ≡ u = c.loop-i.invariant.0 in
     let low : i < length (next u) = omega (arith, c.count-i-end.ensures, c.loop-i-test.true) in
-    let b2 = c.write-move.new.buffer in
-    let t2 = c.write-move.new.tally in
+    let b2 = c.write_move.new.buffer in
+    let t2 = c.write_move.new.tally in
     let h1 = g.T.Table.held c.loop-i.table in
-    let h3 = g.T.Table.held c.follow-move-after.new.table in
-    let w = subst (λ (x : Tree). Writes (reply_line k (get_or (words x) i []) ∷ []) c.loop-i.buffer c.loop-i.tally true b2 t2) at c.if-not-write-move.ensures in
-    let f = subst (λ (x : Tree). Followed g.T.Table.stored c.args.budget (k + 1) None (get_or (next x) i nowhere) h1 b2 t2 c.follow-move-after.result h3 c.follow-move-after.new.buffer c.follow-move-after.new.tally) at c.follow-move-after.ensures.follows in
+    let h3 = g.T.Table.held c.follow_move-after.new.table in
+    let w = subst (λ (x : Tree). Writes (reply_line k (get_or (words x) i []) ∷ []) c.loop-i.buffer c.loop-i.tally true b2 t2) at c.if-not-write_move.ensures in
+    let f = subst (λ (x : Tree). Followed g.T.Table.stored c.args.budget (k + 1) None (get_or (next x) i nowhere) h1 b2 t2 c.follow_move-after.result h3 c.follow_move-after.new.buffer c.follow_move-after.new.tally) at c.follow_move-after.ensures.follows in
     record {
-      at = c.follow-move-after.ensures.at ∙ at;
-      path = c.follow-move-after.ensures.path ∙ c.loop-i.invariant.1;
+      at = c.follow_move-after.ensures.at ∙ at;
+      path = c.follow_move-after.ensures.path ∙ c.loop-i.invariant.1;
       follows = λ o. replying-last g.T.Table.stored c.args.budget k u (g.T.Table.held c.args.table.now) c.args.buffer.now c.args.tally.now i c.loop-i.sum h1 c.loop-i.buffer c.loop-i.tally c.loop-i.invariant.3 low b2 t2 w
-          c.follow-move-after.result h3 c.follow-move-after.new.buffer c.follow-move-after.new.tally f o c.requires.defender (sym c.is-done.ensures ∙ c.if-not-is-done.true);
+          c.follow_move-after.result h3 c.follow_move-after.new.buffer c.follow_move-after.new.tally f o c.requires.defender (sym c.is_done.ensures ∙ c.if-not-is_done.true);
     }
 
-pub follow-replies-loop-i-preserved : goal.follow-replies-loop-i-preserved
-follow-replies-loop-i-preserved g t c =
+pub follow_replies-loop-i-preserved : goal.follow_replies-loop-i-preserved
+follow_replies-loop-i-preserved g t c =
     let u : Tree = g.G.Game.current c.args.game.now in
     let i = c.loop-i.i in
     let k = c.args.ply in
     let at : g.G.Game.current c.loop-i.game ≡ u = c.loop-i.invariant.0 in
     let low : i < length (next u) = omega (arith, c.count-i-end.ensures, c.loop-i-test.true) in
-    let b2 = c.write-move.new.buffer in
-    let t2 = c.write-move.new.tally in
-    let t3 = c.follow-move-after.new.tally in
+    let b2 = c.write_move.new.buffer in
+    let t2 = c.write_move.new.tally in
+    let t3 = c.follow_move-after.new.tally in
     let h1 = g.T.Table.held c.loop-i.table in
-    let h3 = g.T.Table.held c.follow-move-after.new.table in
-    let w = subst (λ (x : Tree). Writes (reply_line k (get_or (words x) i []) ∷ []) c.loop-i.buffer c.loop-i.tally true b2 t2) at c.if-not-write-move.ensures in
-    let f = subst (λ (x : Tree). Followed g.T.Table.stored c.args.budget (k + 1) None (get_or (next x) i nowhere) h1 b2 t2 c.follow-move-after.result h3 c.follow-move-after.new.buffer t3) at c.follow-move-after.ensures.follows in
+    let h3 = g.T.Table.held c.follow_move-after.new.table in
+    let w = subst (λ (x : Tree). Writes (reply_line k (get_or (words x) i []) ∷ []) c.loop-i.buffer c.loop-i.tally true b2 t2) at c.if-not-write_move.ensures in
+    let f = subst (λ (x : Tree). Followed g.T.Table.stored c.args.budget (k + 1) None (get_or (next x) i nowhere) h1 b2 t2 c.follow_move-after.result h3 c.follow_move-after.new.buffer t3) at c.follow_move-after.ensures.follows in
     let fair2 = fair-counted (reply_line k (get_or (words u) i []) ∷ []) c.loop-i.tally t2 w.1.tally c.loop-i.invariant.2 in (
-      c.follow-move-after.ensures.at ∙ at,
-      c.follow-move-after.ensures.path ∙ c.loop-i.invariant.1,
+      c.follow_move-after.ensures.at ∙ at,
+      c.follow_move-after.ensures.path ∙ c.loop-i.invariant.1,
       fair-counted f.part.lines t2 t3 f.written.tally fair2,
       replying-next g.T.Table.stored c.args.budget k u (g.T.Table.held c.args.table.now) c.args.buffer.now c.args.tally.now i c.loop-i.sum h1 c.loop-i.buffer c.loop-i.tally c.loop-i.invariant.3 low b2 t2 w
-          c.follow-move-after.result h3 c.follow-move-after.new.buffer t3 f (sym c.is-done.ensures ∙ c.if-not-is-done.false),
+          c.follow_move-after.result h3 c.follow_move-after.new.buffer t3 f (sym c.is_done.ensures ∙ c.if-not-is_done.false),
     )
 
-pub follow-replies-returns : goal.follow-replies-returns
-follow-replies-returns g t c =
+pub follow_replies-returns : goal.follow_replies-returns
+follow_replies-returns g t c =
     record {
       at = c.loop-i.invariant.0;
       path = c.loop-i.invariant.1;

@@ -8,17 +8,17 @@ use Rattle.solution.proofs.follow.+follow_follow_best_follow_move_follow_replies
 abbrev pub decreases-follow : goal.decreases-follow
 decreases-follow g l = 3 * rank (g.G.Game.current l.game.now) + 2
 
-abbrev pub decreases-follow-best : goal.decreases-follow-best
-decreases-follow-best g l = 3 * rank (g.G.Game.current l.game.now) + 1
+abbrev pub decreases-follow_best : goal.decreases-follow_best
+decreases-follow_best g l = 3 * rank (g.G.Game.current l.game.now) + 1
 
-abbrev pub decreases-follow-replies : goal.decreases-follow-replies
-decreases-follow-replies g l = 3 * rank (g.G.Game.current l.game.now) + 1
+abbrev pub decreases-follow_replies : goal.decreases-follow_replies
+decreases-follow_replies g l = 3 * rank (g.G.Game.current l.game.now) + 1
 
-abbrev pub decreases-follow-move : goal.decreases-follow-move
-decreases-follow-move g l = 3 * rank (g.G.Game.current l.game.now)
+abbrev pub decreases-follow_move : goal.decreases-follow_move
+decreases-follow_move g l = 3 * rank (g.G.Game.current l.game.now)
 
-abbrev pub invariant-follow-replies-loop-i : goal.invariant-follow-replies-loop-i
-invariant-follow-replies-loop-i g l =
+abbrev pub invariant-follow_replies-loop-i : goal.invariant-follow_replies-loop-i
+invariant-follow_replies-loop-i g l =
     (g.G.Game.current l.game ≡ g.G.Game.current l.initial.game)
     × (g.G.Game.earlier l.game ≡ g.G.Game.earlier l.initial.game)
     × Fair l.tally

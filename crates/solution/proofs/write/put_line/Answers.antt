@@ -5,5 +5,5 @@ use Rattle.solution.proofs.write.put_line.Goals as goal
 
 pub returns : goal.returns
 returns c =
-    put_mid-paste (8 * c.args.n) (8 * c.args.n + 8 - 8 * c.args.n) c.args.buffer.now c.copy-from-slice.new.self c.args.line.now 8 c.copy-from-slice.ensures.after (omega arith) (omega arith)
+    put_mid-paste (8 * c.args.n) (8 * c.args.n + 8 - 8 * c.args.n) c.args.buffer.now c.copy_from_slice.new.self c.args.line.now 8 c.copy_from_slice.ensures.after (omega arith) (omega arith)
     ∙ paste_all c.args.buffer.now (8 * c.args.n) c.args.line.now 8 (omega arith)

@@ -7,6 +7,6 @@ returns-then-tally-buffer c = no_room (record { ply = c.args.ply; sign = c.args.
 
 pub returns : goal.returns
 returns c =
-    one_line c.args.ply c.args.sign c.args.text.now c.args.buffer.now c.put-line.new.buffer c.args.tally.now _ (omega arith)
-    (c.put-line.ensures ∙ ap (λ (x : List ℕ). take (8 * c.args.tally.now.lines) c.args.buffer.now ++ (x ++ drop (8 * c.args.tally.now.lines + 8) c.args.buffer.now)) c.line-bytes.ensures)
-    (omega arith) refl (ap (λ (n : ℕ). c.args.tally.now.keys + n) c.key-count.ensures.is) (ap (λ (n : ℕ). c.args.tally.now.duals + n) c.dual-count.ensures.is)
+    one_line c.args.ply c.args.sign c.args.text.now c.args.buffer.now c.put_line.new.buffer c.args.tally.now _ (omega arith)
+    (c.put_line.ensures ∙ ap (λ (x : List ℕ). take (8 * c.args.tally.now.lines) c.args.buffer.now ++ (x ++ drop (8 * c.args.tally.now.lines + 8) c.args.buffer.now)) c.line_bytes.ensures)
+    (omega arith) refl (ap (λ (n : ℕ). c.args.tally.now.keys + n) c.key_count.ensures.is) (ap (λ (n : ℕ). c.args.tally.now.duals + n) c.dual_count.ensures.is)

@@ -15,6 +15,6 @@ returns-then-i-chosen g c =
 
 pub returns : goal.returns
 returns g c =
-    subst (λ (x : List Line). Writes x c.args.buffer.now c.args.tally.now c.write-move.result c.write-move.new.buffer c.write-move.new.tally)
+    subst (λ (x : List Line). Writes x c.args.buffer.now c.args.tally.now c.write_move.result c.write_move.new.buffer c.write_move.new.tally)
     (other-is c.args.ply c.args.chosen c.args.i c.args.flags.now (words (g.G.Game.current c.args.game.now)) c.if-not-flags-i.false (ne_eqb c.args.i c.args.chosen c.if-i-chosen.false))
-    c.write-move.ensures
+    c.write_move.ensures

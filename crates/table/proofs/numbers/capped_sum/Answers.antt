@@ -10,4 +10,4 @@ returns-then-a-eq-TOP c =
 pub returns : goal.returns
 returns c =
     let e = capped_low c.args.a c.args.b c.if-a-eq-TOP.false c.if-b-eq-TOP.false in
-    omega (arith, c.min.ensures, c.saturating-add.ensures)
+    omega (arith, c.min.ensures, c.saturating_add.ensures)

@@ -10,4 +10,4 @@ returns-in-None c =
 pub returns-in-Some : goal.returns-in-Some
 returns-in-Some c =
     let p = c.args.self.now.problem in
-    ap Some c.text-of.ensures ∙ words_nth p.attacker p.plies p.position.diagram c.args.i (Some c.in-Some.step) c.in-Some.ensures
+    ap Some c.text_of.ensures ∙ words_nth p.attacker p.plies p.position.diagram c.args.i (Some c.in-Some.step) c.in-Some.ensures

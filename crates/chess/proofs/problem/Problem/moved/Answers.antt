@@ -4,9 +4,9 @@ use Rattle.chess_rules.proofs.Tested.{lawful_means}
 use Rattle.chess.specs.Grown.{choice_keeps, keeps_of}
 use Rattle.chess.proofs.problem.Problem.moved.Goals as goal
 
-pub invariant-of-result : goal.invariant-of-result
-invariant-of-result c =
+pub invariant_of-result : goal.invariant_of-result
+invariant_of-result c =
     let p = c.args.self.now in
     let k : Lawful c.play-diagram.result =
     subst Lawful (sym c.play-diagram.ensures) (choice_keeps p.plies p.position.diagram c.requires.0 c.args.step c.requires.1 (keeps_of p)) in
-    ((lawful_means c.play-diagram.result).1 k, tt)
+    record { fair = (lawful_means c.play-diagram.result).1 k }

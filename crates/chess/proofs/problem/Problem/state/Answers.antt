@@ -11,5 +11,5 @@ returns c =
     let p = c.args.self.now in
     c.standing.ensures
     ∙ (ap (λ (x : Bool). standing (same_side p.position.diagram.mover p.attacker) x (is_in_check p.position.diagram) p.plies)
-    (ap not c.has-move-able.ensures.exact ∙ stuck_is (legal_moves p.position.diagram))
+    (ap not c.has_move-able.ensures.exact ∙ stuck_is (legal_moves p.position.diagram))
     ∙ sym (state_is p.attacker p.plies p.position.diagram))

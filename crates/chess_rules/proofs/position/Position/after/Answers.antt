@@ -4,9 +4,8 @@ use Rattle.chess_rules.specs.Lawful.{lawful}
 use Rattle.chess_rules.proofs.Listed.{next_fair}
 use Rattle.chess_rules.proofs.position.Position.after.Goals as goal
 
-pub invariant-of-result : goal.invariant-of-result
-invariant-of-result c = (
-  ap lawful c.play.ensures
-      ∙ next_fair c.args.self.now.diagram c.args.self.now.fair (listed c.moves.result) c.moves.ensures.legal c.args.number c.in-Some.step (sym c.in-Some.ensures),
-  tt,
-)
+pub invariant_of-result : goal.invariant_of-result
+invariant_of-result c = record {
+  fair = ap lawful c.play.ensures
+      ∙ next_fair c.args.self.now.diagram c.args.self.now.fair (listed c.moves.result) c.moves.ensures.legal c.args.number c.in-Some.step (sym c.in-Some.ensures);
+}

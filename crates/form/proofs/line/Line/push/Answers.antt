@@ -4,21 +4,18 @@ use Rattle.form.specs.Forms.{padded}
 use Rattle.form.proofs.Padding.{padded-more}
 use Rattle.form.proofs.line.Line.push.Goals as goal
 
-pub invariant-of-result : goal.invariant-of-result
-invariant-of-result c =
+pub invariant_of-result : goal.invariant_of-result
+invariant_of-result c =
     let l = c.args.self in
     let b = c.args.byte in
     let h : l.len < length l.bytes = omega arith in
     let t = take l.len l.bytes in
-    let k : length t ≡ l.len = omega (arith, length-take l.len l.bytes) in (
-      omega arith,
-      (
-        ap (λ (x : List ℕ). set x l.len b) l.blanks
-            ∙ padded-more 87 t l.len b k (omega arith)
-            ∙ sym (ap (padded 87) (take_more_set l.bytes l.len b h)),
-        tt,
-      ),
-    )
+    let k : length t ≡ l.len = omega (arith, length-take l.len l.bytes) in record {
+      within = omega arith;
+      blanks = ap (λ (x : List ℕ). set x l.len b) l.blanks
+          ∙ padded-more 87 t l.len b k (omega arith)
+          ∙ sym (ap (padded 87) (take_more_set l.bytes l.len b h));
+    }
 
 pub returns : goal.returns
 returns c =

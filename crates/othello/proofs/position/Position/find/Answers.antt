@@ -5,7 +5,7 @@ use Rattle.game.specs.Tree.{words}
 use Rattle.othello.specs.Positions.{tree_of}
 use Rattle.othello.specs.Listed.{words_count, word_there, none_there}
 use Rattle.othello.proofs.position.Position.find.Goals as goal
-use Rattle.othello.proofs.position.Position.find.Goals.{in-Some+else-eq, in-default}
+use Rattle.othello.proofs.position.Position.find.Goals.{in-Some+else-eq, in_default}
 use Rattle.std.proofs.lemmas.Bool.Decides.{Decides-eqb}
 
 pub loop-i-preserved : goal.loop-i-preserved
@@ -18,7 +18,7 @@ loop-i-preserved c =
           (λ e. both_ways w.eq.result w.if-eq.false
           ((slice_eq-Decides Decides-eqb w.in-Some.word c.args.text.now w.eq.result w.eq.ensures).1
           (word_there ws c.loop-i.i h w.in-Some.word w.in-Some.ensures ∙ e)))
-      | in-default w ↦ none_there ws c.loop-i.i h w.in-default.ensures
+      | in_default w ↦ none_there ws c.loop-i.i h w.in_default.ensures
     ]
 
 pub returns-then-eq : goal.returns-then-eq

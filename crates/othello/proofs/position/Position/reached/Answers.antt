@@ -4,5 +4,5 @@ use Rattle.othello_rules.specs.Diagrams.{discs}
 use Rattle.othello.specs.Fewer.{size_few}
 use Rattle.othello.proofs.position.Position.reached.Goals as goal
 
-pub overflow-add-result : goal.overflow-add-result
-overflow-add-result c = omega (arith, c.disc-count-other.ensures, size_few (bit (discs c.opponent.result c.args.self.now.diagram)))
+pub overflow_add-result : goal.overflow_add-result
+overflow_add-result c = omega (arith, c.disc_count-other.ensures, size_few (bit (discs c.opponent.result c.args.self.now.diagram)))

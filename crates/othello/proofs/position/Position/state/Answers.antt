@@ -10,7 +10,7 @@ returns-in-Place c = let p = c.args.self.now in
 
 pub returns-in-Pass : goal.returns-in-Pass
 returns-in-Pass c = let p = c.args.self.now in
-    c.to-move-in-Pass.ensures ∙ sym (state_turn p.attacker p.aim p.diagram Pass c.in-Pass.ensures)
+    c.to_move-in-Pass.ensures ∙ sym (state_turn p.attacker p.aim p.diagram Pass c.in-Pass.ensures)
 
 pub returns-then-reached : goal.returns-then-reached
 returns-then-reached c = let p = c.args.self.now in

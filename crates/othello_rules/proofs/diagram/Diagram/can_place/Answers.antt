@@ -4,7 +4,7 @@ use Rattle.othello_rules.specs.Rules.{any}
 use Rattle.othello_rules.specs.Diagrams.{placeable, placements}
 use Rattle.othello_rules.proofs.Filtered.{kept_no, any_kept, tells_of}
 use Rattle.othello_rules.proofs.diagram.Diagram.can_place.Goals as goal
-use Rattle.othello_rules.proofs.diagram.Diagram.can_place.Goals.{in-Some+else-legal, in-default}
+use Rattle.othello_rules.proofs.diagram.Diagram.can_place.Goals.{in-Some+else-legal, in_default}
 
 pub loop-number-preserved : goal.loop-number-preserved
 loop-number-preserved c =
@@ -12,7 +12,7 @@ loop-number-preserved c =
     elim c.match-new.branch [
       | in-Some+else-legal w ↦ kept_no (placeable d) c.loop-number.number (tells_of (placeable d) _ _ _ w.if-legal.ensures w.in-Some.ensures)
           ∙ c.loop-number.invariant
-      | in-default w ↦ absurd (omega (arith, w.in-default.ensures))
+      | in_default w ↦ absurd (omega (arith, w.in_default.ensures))
     ]
 
 pub returns-then-legal : goal.returns-then-legal

@@ -3,7 +3,7 @@ use Rattle.std.specs.List.{range_with_len}
 use Rattle.othello_rules.specs.Diagrams.{placeable, placements}
 use Rattle.othello_rules.proofs.Filtered.{kept_more_yes, kept_more_no, tells_of}
 use Rattle.othello_rules.proofs.diagram.Diagram.placements.Goals as goal
-use Rattle.othello_rules.proofs.diagram.Diagram.placements.Goals.{in-Some-new+then-legal, in-Some-new+else-legal, in-default-new}
+use Rattle.othello_rules.proofs.diagram.Diagram.placements.Goals.{in-Some-new+then-legal, in-Some-new+else-legal, in_default-new}
 
 pub loop-number-preserved : goal.loop-number-preserved
 loop-number-preserved c =
@@ -15,7 +15,7 @@ loop-number-preserved c =
       | in-Some-new+else-legal w ↦ simp (w.squares-is, w.count-is)
           (kept_more_no (placeable c.args.self.now) l.number l.count l.squares l.invariant
           (tells_of (placeable c.args.self.now) _ _ _ w.if-legal.ensures w.in-Some-new.ensures))
-      | in-default-new w ↦ absurd (omega (arith, w.in-default-new.ensures))
+      | in_default-new w ↦ absurd (omega (arith, w.in_default-new.ensures))
     ]
 
 pub returns : goal.returns

@@ -20,12 +20,12 @@ loop-i-preserved c =
     ap (λ (y : Pair). take c.loop-i.i ps ++ (y ∷ [])) c.index-pairs-i.is ∙ sym (take_more ps c.loop-i.i x c.loop-i-test.true) in
     subst (λ (l : List Pair). Tallied c.args.side l c.with-tally.result) more (c.with-tally.ensures _ long c.loop-i.invariant)
 
-pub invariant-of-result : goal.invariant-of-result
-invariant-of-result c =
+pub invariant_of-result : goal.invariant_of-result
+invariant_of-result c =
     let t = tallied_all c.args.side c.args.pairs.now c.loop-i.i c.loop-i.tally c.loop-i-test.false c.loop-i.invariant in
     let e = pair-numbers c.args.side c.args.pairs.now c.loop-i.tally c.match-side.proof t
     (elim c.match-side.branch [ in-Attacker w ↦ inl (w.in-Attacker.is, w.proof-is) | in-Defender w ↦ inr (w.in-Defender.is, w.proof-is) ]) in
-    (subst₂ (λ (x y : ℕ). T (well x y)) (sym e.0) (sym e.1) (pair_at c.args.side c.args.pairs.now).formed, tt)
+    record { formed = subst₂ (λ (x y : ℕ). T (well x y)) (sym e.0) (sym e.1) (pair_at c.args.side c.args.pairs.now).formed }
 
 pub returns : goal.returns
 returns c =

@@ -7,7 +7,7 @@ use Rattle.table.proofs.figures.Tally.with.Goals as goal
 pub returns-then-place-eq0 : goal.returns-then-place-eq0
 returns-then-place-eq0 c ps l h =
     tallied_new c.args.side ps c.args.pair c.args.self _ h (c.min-least.ensures ∙ ap (min c.args.self.least) c.own-number.ensures)
-    (c.capped-sum-sum.ensures ∙ ap (λ (k : ℕ). capped (c.args.self.sum ∷ k ∷ [])) c.against-other.ensures)
+    (c.capped_sum-sum.ensures ∙ ap (λ (k : ℕ). capped (c.args.self.sum ∷ k ∷ [])) c.against-other.ensures)
     (⊎_elim (λ e. inl (none_before ps (l ∙ e)))
     (λ e. inr (let k : own c.args.side c.args.pair < c.args.self.least = omega (arith, e.1, c.own-number.ensures) in k))
     c.then-place-eq0.either)
@@ -18,6 +18,6 @@ returns c ps l h =
     let high : c.args.self.least ≤ own c.args.side c.args.pair = omega (arith, c.if-number-self.false, c.own-number.ensures) in
     let some : 0 < length ps = omega (arith, c.if-place-eq0.false) in
     tallied_old c.args.side ps c.args.pair c.args.self _ h (c.min-least.ensures ∙ ap (min c.args.self.least) c.own-number.ensures)
-    (c.capped-sum-sum.ensures ∙ ap (λ (k : ℕ). capped (c.args.self.sum ∷ k ∷ [])) c.against-other.ensures)
+    (c.capped_sum-sum.ensures ∙ ap (λ (k : ℕ). capped (c.args.self.sum ∷ k ∷ [])) c.against-other.ensures)
     some high refl (c.min.ensures ∙ ap (min c.args.self.second) c.own-number.ensures)
-    (c.capped-sum.ensures ∙ ap (λ (k : ℕ). capped (c.args.self.rest ∷ k ∷ [])) c.against-other.ensures)
+    (c.capped_sum.ensures ∙ ap (λ (k : ℕ). capped (c.args.self.rest ∷ k ∷ [])) c.against-other.ensures)

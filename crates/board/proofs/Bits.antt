@@ -1,7 +1,7 @@
 -- The bits of words: of one bit, of and, or, not, shifts, and of masks.
-use Rattle.std.proofs.Common.{◌≡◌, ℕ, zero, suc, ◌+◌, ◌-◌, ◌*◌, ◌/◌, ◌%◌, ◌^◌, ◌<◌, ◌≤◌, min, max, Bool, true, false, cond, not, ◌&&◌, ◌||◌, T, eqb, ◌⊎◌, List, [], ◌∷◌, ◌++◌, count_by, sym, refl, ap, ◌∙◌, subst, ap₂, inl, inr, add-zero, add_assoc, add-suc, add_comm, suc-add, pow-suc, zero-add, div-one, add-one, one-add, arith, pow_pos, pow_mono, shr-shr}
+use Rattle.std.proofs.Common.{◌≡◌, ℕ, zero, suc, ◌+◌, ◌-◌, ◌*◌, ◌/◌, ◌%◌, ◌^◌, ◌<◌, min, max, Bool, true, false, cond, not, ◌&&◌, ◌||◌, eqb, List, [], ◌∷◌, ◌++◌, count_by, sym, refl, ap, ◌∙◌, ap₂, add_assoc, add_comm, suc-add, pow-suc, div-one, add-one, one-add, arith, pow_mono, shr-shr}
 use native.Mathlib.Nat.{add_left_comm}
-use lib.Bits.{bit_and, bit_or, bit_xor, and_step, or_step, and_mask, or_lt, shifted_even, shifted_half}
+use lib.Bits.{bit_and, bit_or, and_step, or_step, and_mask, or_lt, shifted_even, shifted_half}
 use lib.Pow.{shl-shr, field, mod-mod-pow}
 use lib.Dec.{eqb-zero-suc, eqb-suc-zero, eqb-suc-suc}
 use lib.Count.{ones, ones_in, ones_step}

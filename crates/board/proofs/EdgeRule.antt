@@ -1,5 +1,5 @@
 -- The edge table's rule: one test that antt computes, over the whole table.
-use Rattle.std.proofs.Common.{◌≡◌, ℕ, zero, suc, ◌+◌, ◌*◌, ◌/◌, ◌%◌, ◌<◌, Bool, T, eqb, List, length, get_or, sym, refl, ap, ◌∙◌, subst, ap₂, arith, lit<, eqb→eq}
+use Rattle.std.proofs.Common.{◌≡◌, ℕ, zero, suc, ◌+◌, ◌*◌, ◌/◌, ◌%◌, ◌<◌, Bool, T, eqb, List, length, get_or, refl, ap, ◌∙◌, ap₂, arith, lit<, eqb→eq}
 use denote.Enum.Declared.{tag_of}
 use Rattle.std.proofs.lemmas.Nat.{div-mul-add, mod-mul-add}
 use Rattle.board.specs.declared.direction.Direction.{Direction}

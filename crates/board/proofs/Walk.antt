@@ -1,5 +1,5 @@
 -- A walk along a ray: what is ahead after k steps.
-use Rattle.std.proofs.Common.{◌≡◌, ℕ, zero, suc, ◌+◌, ◌-◌, ◌<◌, ◌≤◌, List, [], ◌∷◌, map, refl, ap, arith}
+use Rattle.std.proofs.Common.{◌≡◌, ℕ, suc, ◌+◌, ◌-◌, ◌<◌, ◌≤◌, List, [], ◌∷◌, map, refl, arith}
 use Rattle.std.specs.List.{range_with_len}
 use Rattle.board.specs.Squares.{reach, away, ray}
 use Rattle.board.specs.declared.direction.Direction.{Direction}

@@ -1,5 +1,5 @@
 -- A set of squares as a word: bit s stands for the square s.
-use Rattle.std.specs.Prelude.{ℕ, zero, suc, ◌+◌, ◌*◌, ◌/◌, ◌%◌, ◌^◌, Bool, true, false, cond, ◌||◌, List, [], ◌∷◌, length, filter, ◌==◌, bit_or}
+use Rattle.std.specs.Prelude.{ℕ, zero, suc, ◌+◌, ◌*◌, ◌/◌, ◌%◌, ◌^◌, Bool, false, cond, ◌||◌, List, [], ◌∷◌, length, filter, ◌==◌, bit_or}
 use Rattle.std.specs.List.{range_with_len}
 
 -- whether the word w has the bit s

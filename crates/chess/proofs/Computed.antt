@@ -1,5 +1,5 @@
 -- Worked diagrams, computed.
-use Rattle.std.proofs.Common.{◌≡◌, ℕ, [], length, get_or, codes, refl}
+use Rattle.std.proofs.Common.{◌≡◌, [], length, get_or, codes, refl}
 use Rattle.board.specs.Masks.{member}
 use Rattle.form.specs.Forms.{reading_from}
 use Rattle.game.specs.Tree.{position, refused, state, nowhere, next, words}
@@ -17,13 +17,13 @@ use Rattle.chess.specs.Trees.{tree, state_of}
 use Rattle.chess.specs.Setting.{reading_of}
 use Rattle.chess.specs.Worked.{back_row, stalemate, Worked}
 
-back-row-set : reading_of (codes "6k1/5ppp/8/8/8/8/8/R5K1 w - -") 1 ≡ position (tree White 1 back_row)
+back_row_set : reading_of (codes "6k1/5ppp/8/8/8/8/8/R5K1 w - -") 1 ≡ position (tree White 1 back_row)
 unfolding lawful rules_kept pawns_inner tally checked attacked attackers lines line leaps member reading_from man_of side_of run_of file_of empty
-back-row-set = refl
+back_row_set = refl
 
-stalemate-set : reading_of (codes "7k/5Q2/6K1/8/8/8/8/8 b - -") 1 ≡ position (tree Black 1 stalemate)
+stalemate_set : reading_of (codes "7k/5Q2/6K1/8/8/8/8/8 b - -") 1 ≡ position (tree Black 1 stalemate)
 unfolding lawful rules_kept pawns_inner tally checked attacked attackers lines line leaps member reading_from man_of side_of run_of file_of empty
-stalemate-set = refl
+stalemate_set = refl
 
 eighth-set : reading_of (codes "6k1/5ppp/8/8/8/8/8/R5K1 w - -") 8 ≡ refused Aim 0
 eighth-set = refl
@@ -50,11 +50,11 @@ stalemate-ends = refl
 
 pub worked : Worked
 worked = record {
-  back-row-set = back-row-set;
+  back_row_set = back_row_set;
   count = back-row-count;
   text = back-row-text;
   mates = back-row-mates;
-  stalemate-set = stalemate-set;
+  stalemate_set = stalemate_set;
   stale = stalemate-ends;
   eighth = eighth-set;
   none = none-set;

@@ -1,6 +1,6 @@
 -- Equal codes are codes of equal positions.
-use Rattle.std.specs.Prelude.{◌≡◌, ℕ, zero, suc, ◌+◌, ◌-◌, ◌*◌, ◌^◌, ◌<◌, ◌≤◌, ◌⊎◌, List, [], ◌∷◌, length, Some, None, Option, slice_index_or, refl}
-use Rattle.std.proofs.Common.{sym, ap, ◌∙◌, subst, inl, inr, ⊎_elim, arith, add-one, pow-suc}
+use Rattle.std.specs.Prelude.{◌≡◌, ℕ, zero, suc, ◌+◌, ◌-◌, ◌*◌, ◌^◌, ◌<◌, ◌≤◌, List, length, Some, None, Option, slice_index_or, refl}
+use Rattle.std.proofs.Common.{sym, ap, ◌∙◌, ⊎_elim, arith, add-one, pow-suc}
 use Rattle.std.proofs.Math.Nat.{pow-le-pow_right}
 use Rattle.std.proofs.lemmas.List.{ext_get_or}
 use Rattle.std.proofs.lemmas.Bool.{cases_lt}
@@ -11,9 +11,8 @@ use Rattle.chess_attacks.specs.declared.men.Kind.{Kind}
 use Rattle.chess_attacks.specs.declared.men.Kind.TheVariants.{King, Queen, Rook, Bishop, Knight, Pawn}
 use Rattle.chess_attacks.specs.declared.men.Side.{Side}
 use Rattle.chess_attacks.specs.declared.men.Side.TheVariants.{White, Black}
-use Rattle.chess_moves.specs.declared.diagram.Diagram.{Diagram}
 use Rattle.chess_attacks.specs.Men.{Squares, on}
-use Rattle.chess.specs.Code.{kind_number, side_number, digit, word, passing_number, rest, code, CodesTell}
+use Rattle.chess.specs.Code.{kind_number, side_number, digit, word, passing_number, rest, CodesTell}
 
 -- a way back from the numbers
 abbrev kind_back : ℕ → Kind

@@ -1,11 +1,11 @@
 -- The tree of a position by its moves.
-use Rattle.std.specs.Prelude.{◌≡◌, ℕ, zero, suc, ◌-◌, ◌<◌, ◌≤◌, Bool, true, false, not, List, [], ◌∷◌, map, length, get_or, Some, None, Option, ◌==◌, ◌≢◌, slice_index_or, refl}
+use Rattle.std.specs.Prelude.{◌≡◌, ℕ, zero, suc, ◌-◌, ◌<◌, ◌≤◌, not, List, [], ◌∷◌, map, length, get_or, Some, None, Option, ◌==◌, ◌≢◌, slice_index_or, refl}
 use Rattle.std.proofs.Common.{sym, ap, ◌∙◌, subst, arith}
 use Rattle.std.specs.List.{ContainsAt as Has, AllByRecursion, slice_get}
 use Rattle.std.proofs.ByRecursion.{All-get_or, All-weaker, all_has_itself}
 use Rattle.std.proofs.lemmas.List.{length-map, get_or-map}
 use Rattle.std.proofs.lemmas.Bool.Decides.{nat_tests}
-use Rattle.game.specs.Tree.{Tree, node, Moves, state, rank, code, successors, texts, next, words}
+use Rattle.game.specs.Tree.{Tree, node, state, rank, code, successors, texts, next, words}
 use Rattle.chess_attacks.specs.declared.men.Side.{Side}
 use Rattle.chess_moves.specs.declared.diagram.Diagram.{Diagram}
 use Rattle.chess_moves.specs.declared.step.Move.{Move}

@@ -1,5 +1,5 @@
 -- What setting makes of a text and an aim: as a rule that computes, and in words.
-use Rattle.std.specs.Prelude.{◌≡◌, ℕ, ◌+◌, ◌-◌, ◌*◌, ◌≤◌, Bool, true, false, cond, ◌&&◌, List, Ok, Err, Result, nat_le}
+use Rattle.std.specs.Prelude.{◌≡◌, ℕ, ◌+◌, ◌-◌, ◌*◌, ◌≤◌, cond, ◌&&◌, List, Ok, Err, Result, nat_le}
 use Rattle.form.specs.Forms.{Departs, reading}
 use Rattle.game.specs.Tree.{Reading, position, refused}
 use Rattle.game.specs.declared.decline.Decline.{Decline}

@@ -1,10 +1,9 @@
 -- Worked diagrams, of the definitions.
-use Rattle.std.specs.Prelude.{◌≡◌, ℕ, List, [], ◌∷◌, length, get_or, replicate, Some, None, codes, Option, slice_index_or, slice_set}
+use Rattle.std.specs.Prelude.{◌≡◌, ℕ, [], length, get_or, replicate, Some, None, codes, slice_index_or, slice_set}
 use Rattle.game.specs.Tree.{position, refused, state, nowhere, next, words}
 use Rattle.game.specs.declared.state.State.TheVariants.{Won, NotWon}
-use Rattle.game.specs.declared.decline.Decline.TheVariants.{Aim, Form, Unlawful}
+use Rattle.game.specs.declared.decline.Decline.TheVariants.{Aim, Form}
 use Rattle.chess_attacks.specs.Men.{Squares}
-use Rattle.chess_attacks.specs.declared.men.Man.{Man}
 use Rattle.chess_attacks.specs.declared.men.Kind.{Kind}
 use Rattle.chess_attacks.specs.declared.men.Kind.TheVariants.{King, Queen, Rook, Pawn}
 use Rattle.chess_attacks.specs.declared.men.Side.{Side}
@@ -31,11 +30,11 @@ stalemate = record {
 }
 
 pub record Worked : Type 0 where
-  pub back-row-set : reading_of (codes "6k1/5ppp/8/8/8/8/8/R5K1 w - -") 1 ≡ position (tree White 1 back_row)
+  pub back_row_set : reading_of (codes "6k1/5ppp/8/8/8/8/8/R5K1 w - -") 1 ≡ position (tree White 1 back_row)
   pub count : length (next (tree White 1 back_row)) ≡ 17
   pub text : get_or (words (tree White 1 back_row)) 11 [] ≡ codes "a1a8 "
   pub mates : state (slice_index_or (next (tree White 1 back_row)) 11 nowhere) ≡ Won
-  pub stalemate-set : reading_of (codes "7k/5Q2/6K1/8/8/8/8/8 b - -") 1 ≡ position (tree Black 1 stalemate)
+  pub stalemate_set : reading_of (codes "7k/5Q2/6K1/8/8/8/8/8 b - -") 1 ≡ position (tree Black 1 stalemate)
   pub stale : state (tree Black 1 stalemate) ≡ NotWon
   pub eighth : reading_of (codes "6k1/5ppp/8/8/8/8/8/R5K1 w - -") 8 ≡ refused Aim 0
   pub none : reading_of [] 1 ≡ refused Form 0

@@ -1,7 +1,7 @@
 -- The lists of commanded squares, and the tests of attack and check, say what the definitions by direction and distance say.
-use Rattle.std.proofs.Common.{◌≡◌, ℕ, zero, suc, ◌+◌, ◌-◌, ◌*◌, ◌<◌, ◌≤◌, Bool, true, false, cond, ◌&&◌, ◌||◌, eqb, Some, None, Decides, Option, sym, refl, ap, ◌∙◌, subst, ⊎_elim, add-zero, arith}
+use Rattle.std.proofs.Common.{◌≡◌, ℕ, zero, suc, ◌+◌, ◌*◌, ◌<◌, ◌≤◌, Bool, true, false, cond, ◌&&◌, eqb, Some, None, Decides, Option, sym, refl, ap, ◌∙◌, subst, ⊎_elim, arith}
 use Rattle.std.proofs.lemmas.Bool.{and_parts, and_from, eqb-true, eq-eqb, cases_lt, false≢true}
-use Rattle.std.proofs.lemmas.Bool.Decides.{Decides-at, Decides-like}
+use Rattle.std.proofs.lemmas.Bool.Decides.{Decides-at}
 use Rattle.board.specs.Squares.{file, row, reach, away}
 use Rattle.board.specs.Masks.{member, mask, word, bit}
 use Rattle.board.specs.declared.direction.Direction.{Direction}
@@ -10,13 +10,13 @@ use Rattle.chess_attacks.specs.declared.men.Man.{Man}
 use Rattle.chess_attacks.specs.declared.men.Kind.{Kind}
 use Rattle.chess_attacks.specs.declared.men.Kind.TheVariants.{King, Queen, Rook, Bishop, Knight, Pawn}
 use Rattle.chess_attacks.specs.declared.men.Side.{Side}
-use Rattle.chess_attacks.specs.Men.{Squares, on, given, other, same_side, is_king, is_knight, king_of}
+use Rattle.chess_attacks.specs.Men.{Squares, on, given, other, same_side, is_knight, king_of}
 use Rattle.chess_attacks.specs.Ranges.{range_of}
-use Rattle.chess_attacks.specs.Commands.{Along, gap, Leap, Commands, Attacked, Checked}
+use Rattle.chess_attacks.specs.Commands.{Along, gap, Commands, Attacked, Checked}
 use Rattle.chess_attacks.specs.Commands.Commands.{by_line, by_leap}
 use Rattle.chess_attacks.specs.Lists.{beside, line, lines, leaps, leap, single, commands, attacks, attacked, king_hit, checked}
 use Rattle.chess_attacks.proofs.Sides.{side-true, side_same, king_is, knight_kind}
-use Rattle.chess_attacks.proofs.Back.{all, at_all, leap-back}
+use Rattle.chess_attacks.proofs.Back.{at_all, leap-back}
 use Rattle.chess_attacks.proofs.Onward.{away-none, beside_away, beside_edge}
 use Rattle.chess_attacks.proofs.Reach.{Way, line_way, way_line, way-some}
 use Rattle.chess_attacks.proofs.Reach.Way.{one, more}

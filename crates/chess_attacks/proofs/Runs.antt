@@ -1,5 +1,5 @@
 -- One turn of a walk along a line.
-use Rattle.std.proofs.Common.{◌≡◌, ℕ, zero, suc, ◌+◌, ◌-◌, ◌<◌, ◌≤◌, Bool, true, false, List, [], ◌∷◌, is_some, Some, None, Option, sym, refl, ap, ◌∙◌, arith}
+use Rattle.std.proofs.Common.{◌≡◌, ℕ, suc, ◌+◌, ◌-◌, ◌<◌, ◌≤◌, true, false, [], ◌∷◌, is_some, Some, None, Option, refl, ap, ◌∙◌, arith}
 use Rattle.chess_attacks.specs.declared.men.Man.{Man}
 use Rattle.board.specs.declared.direction.Direction.{Direction}
 use Rattle.chess_attacks.specs.Men.{Squares, on, given}

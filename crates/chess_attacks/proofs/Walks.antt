@@ -1,7 +1,6 @@
 -- Lines and looks, walked by distance from where they begin.
-use Rattle.std.proofs.Common.{◌≡◌, ℕ, zero, suc, ◌+◌, ◌-◌, ◌^◌, ◌<◌, ◌≤◌, Bool, true, false, ◌&&◌, ltb, List, [], ◌∷◌, is_some, Some, None, Option, sym, refl, ap, ◌∙◌, ⊎_elim, arith}
+use Rattle.std.proofs.Common.{◌≡◌, ℕ, ◌+◌, ◌-◌, ◌^◌, ◌<◌, ◌≤◌, true, false, ◌&&◌, ltb, List, [], ◌∷◌, is_some, Some, None, sym, ap, ◌∙◌, arith}
 use lib.Bits.{bit_or, or_zero_r}
-use Rattle.std.proofs.lemmas.Bool.{cases_lt}
 use Rattle.board.specs.Squares.{reach, away}
 use Rattle.board.specs.Masks.{mask}
 use Rattle.board.specs.declared.direction.Direction.{Direction}
@@ -14,7 +13,7 @@ use Rattle.chess_attacks.specs.Lists.{beside, line}
 use Rattle.chess_attacks.specs.Look.{struck}
 use Rattle.chess_attacks.proofs.Runs.{line_none, line_end, line_stop, line_more}
 use Rattle.chess_attacks.proofs.Sights.{struck_none, struck_end, struck_stop, struck_more}
-use Rattle.chess_attacks.proofs.Onward.{near, away-none, beside_away, beside_edge}
+use Rattle.chess_attacks.proofs.Onward.{away-none, beside_away, beside_edge}
 
 -- after k steps: the squares seen, with those that are to come, are the whole line
 abbrev pub Seen : Squares → Direction → ℕ → ℕ → ℕ → ℕ → Type 0

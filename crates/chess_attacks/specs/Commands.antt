@@ -1,9 +1,8 @@
 -- Which squares a man commands, by direction and distance; what an attack is, and check.
-use Rattle.std.specs.Prelude.{◌≡◌, ℕ, ◌-◌, ◌*◌, ◌<◌, ◌≤◌, min, max, Some, None, Option}
+use Rattle.std.specs.Prelude.{◌≡◌, ℕ, ◌-◌, ◌*◌, ◌<◌, ◌≤◌, min, max, Some, None}
 use Rattle.board.specs.Squares.{file, row, reach, away}
 use Rattle.board.specs.declared.direction.Direction.{Direction}
 use Rattle.chess_attacks.specs.declared.men.Man.{Man}
-use Rattle.chess_attacks.specs.declared.men.Kind.{Kind}
 use Rattle.chess_attacks.specs.declared.men.Kind.TheVariants.{King, Knight}
 use Rattle.chess_attacks.specs.declared.men.Side.{Side}
 use Rattle.chess_attacks.specs.Men.{Squares, on, other}

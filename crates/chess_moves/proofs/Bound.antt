@@ -1,5 +1,5 @@
 -- How many moves there can be.
-use Rattle.std.proofs.Common.{◌≡◌, ℕ, zero, suc, ◌+◌, ◌-◌, ◌*◌, ◌<◌, ◌≤◌, Bool, true, false, cond, not, ◌&&◌, ◌||◌, eqb, leb, List, [], ◌∷◌, ◌++◌, length, Some, None, Option, sym, refl, ap, ◌∙◌, le_trans, add-le-add, mul-le-mul_left, mul-add, arith}
+use Rattle.std.proofs.Common.{◌≡◌, ℕ, zero, suc, ◌+◌, ◌*◌, ◌<◌, ◌≤◌, Bool, true, false, cond, not, ◌&&◌, ◌||◌, eqb, leb, List, [], ◌∷◌, ◌++◌, length, Some, None, Option, sym, refl, ap, ◌∙◌, le_trans, add-le-add, mul-le-mul_left, mul-add, arith}
 use Rattle.std.proofs.lemmas.List.{length-append}
 use Rattle.std.proofs.lemmas.Bool.{eqb-true, leb-true}
 use Rattle.board.specs.Squares.{row}
@@ -15,13 +15,12 @@ use Rattle.chess_attacks.specs.Men.{Squares, on, given, other, same_side, is_kin
 use Rattle.chess_attacks.specs.Ranges.{range_of}
 use Rattle.chess_attacks.specs.Lists.{beside, line, lines, leaps, commands, checked}
 use Rattle.chess_attacks.proofs.Back.{all, at_all}
-use Rattle.chess_moves.specs.declared.step.Move.{Move}
 use Rattle.chess_moves.specs.declared.step.Promotion.{Promotion}
 use Rattle.chess_moves.specs.declared.step.Promotion.TheVariants.{Queen as ToQueen, Rook as ToRook, Bishop as ToBishop, Knight as ToKnight}
-use Rattle.chess_moves.specs.Pawns.{forward, start_row, last_row, stride, at_end, is_passing}
+use Rattle.chess_moves.specs.Pawns.{forward, start_row, last_row, is_passing}
 use Rattle.chess_moves.specs.After.{after}
 use Rattle.chess_moves.specs.Moves.{empty, ahead_of, reach_of, steps_of, goes, a_move, one, tries, moves_to, moves_of, moves_from, passing_of}
-use Rattle.chess_moves.specs.Count.{tally, men, kings, FewMoves}
+use Rattle.chess_moves.specs.Count.{tally, FewMoves}
 
 abbrev count : ℕ → (ℕ → Bool) → ℕ
 count zero p = 0

@@ -1,9 +1,9 @@
 -- Lists that are cut at a limit.
-use Rattle.std.proofs.Common.{◌≡◌, ℕ, zero, suc, ◌+◌, ◌-◌, ◌<◌, ◌≤◌, min, Bool, true, false, List, [], ◌∷◌, ◌++◌, length, get_or, take, set, Some, None, Option, sym, refl, ap, ◌∙◌, ⊎_elim, arith}
+use Rattle.std.proofs.Common.{◌≡◌, ℕ, ◌+◌, ◌<◌, ◌≤◌, List, [], ◌∷◌, ◌++◌, length, get_or, take, set, Some, None, sym, ap, ◌∙◌, ⊎_elim, arith}
 use Rattle.std.specs.List.{slice_get}
 use Rattle.std.proofs.lemmas.Option.{slice_get-get_or, slice_get_past}
 use Rattle.std.proofs.lemmas.Bool.{cases_lt}
-use Rattle.std.proofs.lemmas.List.{take_all, take_more_set, take-append-le, length-take, length-append, length_push, append_assoc, append-nil, take-take, get_or-take}
+use Rattle.std.proofs.lemmas.List.{take_all, take_more_set, take-append-le, length-take, length_push, append_assoc, append-nil, take-take, get_or-take}
 
 module _ {X : Type 0} (limit : ℕ) where
   -- an array of moves, of which the first n are listed

@@ -2,16 +2,15 @@
 use Rattle.std.proofs.Common.{◌≡◌, ℕ, zero, suc, ◌+◌, ◌<◌, ◌≤◌, Bool, true, false, cond, not, ◌&&◌, ◌||◌, eqb, ◌⊎◌, List, [], ◌∷◌, ◌++◌, Some, None, Decides, Option, sym, refl, ap, ◌∙◌, subst, inl, inr, ⊎_elim, arith}
 use Rattle.std.specs.List.{ContainsAt as Has, AllByRecursion}
 use Rattle.std.proofs.ByRecursion.{All-append, has_append_left, has_append_right}
-use Rattle.std.proofs.lemmas.Bool.{and_parts, and_from, or_cases, or_left, or_right, eqb-true, eq-eqb, not-true, not_from_false, false≢true, cases_lt, cases_eq}
+use Rattle.std.proofs.lemmas.Bool.{and_parts, and_from, or_cases, or_left, or_right, eqb-true, eq-eqb, not-true, not_from_false, false≢true, cases_lt}
 use Rattle.std.proofs.lemmas.Bool.Decides.{not_from_Decides}
-use Rattle.board.specs.Squares.{row, reach, away}
+use Rattle.board.specs.Squares.{row, away}
 use Rattle.board.specs.Masks.{member}
 use Rattle.chess_attacks.specs.declared.men.Man.{Man}
-use Rattle.chess_attacks.specs.declared.men.Kind.{Kind}
 use Rattle.chess_attacks.specs.declared.men.Kind.TheVariants.{Pawn}
 use Rattle.chess_attacks.specs.declared.men.Side.{Side}
 use Rattle.chess_attacks.specs.Men.{Squares, on, given, other, same_side, is_pawn, of}
-use Rattle.chess_attacks.specs.Lists.{line, commands, checked}
+use Rattle.chess_attacks.specs.Lists.{line, checked}
 use Rattle.chess_attacks.specs.Commands.{Commands, Checked}
 use Rattle.chess_attacks.proofs.Sides.{side-true, side_same, pawn_kind}
 use Rattle.chess_attacks.proofs.Meaning.{Run, line_run, run_line, decides_commands, checked_means}
@@ -21,7 +20,7 @@ use Rattle.chess_moves.specs.declared.step.Promotion.{Promotion}
 use Rattle.chess_moves.specs.declared.step.Promotion.TheVariants.{Queen, Rook, Bishop, Knight}
 use Rattle.chess_moves.specs.Pawns.{forward, start_row, last_row, stride, at_end, is_passing, square}
 use Rattle.chess_moves.specs.After.{after}
-use Rattle.chess_moves.specs.Moves.{empty, reach_of, ahead_of, steps_of, goes, a_move, one, tries, moves_to, moves_of, moves_from, legal_moves, passing_of}
+use Rattle.chess_moves.specs.Moves.{empty, reach_of, steps_of, goes, a_move, one, tries, moves_to, moves_from, legal_moves, passing_of}
 use Rattle.chess_moves.specs.Legal.{Holds, Ahead, Goes, AtEnd, Becomes, Legal}
 use Rattle.chess_moves.specs.Legal.Goes.{officer, step, two_step, capture, en_passant}
 use Rattle.chess_moves.proofs.Numbers.{square-number, move-is}

@@ -1,9 +1,8 @@
 -- Squares and their numbers.
-use Rattle.std.proofs.Common.{◌≡◌, ℕ, ◌%◌, ◌<◌, Some, None, Option, sym, refl, ap, ◌∙◌, arith}
+use Rattle.std.proofs.Common.{◌≡◌, ℕ, ◌<◌, Some, None, Option, sym, refl, ap, ◌∙◌, arith}
 use Rattle.board.specs.declared.square.Square.{Square}
 use Rattle.board.proofs.Same.{same_square}
 use Rattle.chess_attacks.specs.Lists.{numbered}
-use Rattle.chess_moves.specs.declared.step.Move.{Move}
 use Rattle.chess_moves.specs.declared.step.Promotion.{Promotion}
 use Rattle.chess_moves.specs.Pawns.{square, squared}
 use Rattle.chess_moves.specs.Moves.{a_move}

@@ -1,5 +1,5 @@
 -- The moves are listed in order.
-use Rattle.std.proofs.Common.{◌≡◌, ℕ, zero, suc, ◌+◌, ◌-◌, ◌*◌, ◌<◌, ◌≤◌, Bool, true, false, cond, ◌⊎◌, List, [], ◌∷◌, ◌++◌, Some, None, Option, sym, refl, ap, ◌∙◌, inl, inr, ⊎_elim, arith}
+use Rattle.std.proofs.Common.{◌≡◌, ℕ, zero, suc, ◌+◌, ◌*◌, ◌<◌, ◌≤◌, Bool, true, false, cond, List, [], ◌∷◌, ◌++◌, Some, None, Option, inl, inr, ⊎_elim, arith}
 use Rattle.std.specs.List.{AllByRecursion}
 use Rattle.std.proofs.lemmas.Bool.{cases_order}
 use Rattle.chess_attacks.specs.declared.men.Man.{Man}
@@ -10,9 +10,9 @@ use Rattle.chess_moves.specs.declared.diagram.Diagram.{Diagram}
 use Rattle.chess_moves.specs.declared.step.Move.{Move}
 use Rattle.chess_moves.specs.declared.step.Promotion.{Promotion}
 use Rattle.chess_moves.specs.declared.step.Promotion.TheVariants.{Queen, Rook, Bishop, Knight}
-use Rattle.chess_moves.specs.Pawns.{at_end, square}
+use Rattle.chess_moves.specs.Pawns.{at_end}
 use Rattle.chess_moves.specs.After.{after}
-use Rattle.chess_moves.specs.Moves.{goes, a_move, one, tries, moves_to, moves_of, moves_from, reach_of, steps_of, legal_moves, passing_of}
+use Rattle.chess_moves.specs.Moves.{goes, a_move, one, tries, moves_to, moves_from, reach_of, steps_of, legal_moves, passing_of}
 use Rattle.chess_moves.specs.Legal.{turn_number, Before, Ordered}
 use Rattle.chess_moves.proofs.Numbers.{square-number}
 

@@ -1,5 +1,5 @@
 -- The board after a move, and the diagram after a move.
-use Rattle.std.specs.Prelude.{ℕ, Bool, cond, Some, None, Option, slice_set}
+use Rattle.std.specs.Prelude.{ℕ, cond, Some, None, Option, slice_set}
 use Rattle.chess_attacks.specs.declared.men.Man.{Man}
 use Rattle.chess_attacks.specs.declared.men.Side.{Side}
 use Rattle.chess_attacks.specs.Men.{Squares, on, given, other}

@@ -1,5 +1,5 @@
 -- The legal moves of a diagram as a list.
-use Rattle.std.specs.Prelude.{◌≡◌, ℕ, zero, suc, ◌+◌, Bool, true, false, cond, not, ◌&&◌, ◌||◌, List, [], ◌∷◌, ◌++◌, take, Some, None, Option}
+use Rattle.std.specs.Prelude.{◌≡◌, ℕ, zero, suc, Bool, true, false, cond, not, ◌&&◌, ◌||◌, List, [], ◌∷◌, ◌++◌, take, Some, None, Option}
 use Rattle.board.specs.Masks.{member}
 use Rattle.chess_attacks.specs.declared.men.Man.{Man}
 use Rattle.chess_attacks.specs.declared.men.Side.{Side}

@@ -1,5 +1,5 @@
 -- What is a pawn's alone: its way ahead, its first and last rows, what it becomes, and the square that it passes.
-use Rattle.std.specs.Prelude.{ℕ, ◌+◌, ◌%◌, ◌<◌, Bool, true, false, cond, not, ◌&&◌, ◌||◌, Some, None, Option, ◌==◌}
+use Rattle.std.specs.Prelude.{ℕ, ◌+◌, ◌%◌, Bool, false, cond, not, ◌&&◌, ◌||◌, Some, None, Option, ◌==◌}
 use Rattle.std.proofs.Common.{arith}
 use Rattle.board.specs.Squares.{file, row}
 use Rattle.board.specs.declared.direction.Direction.{Direction}

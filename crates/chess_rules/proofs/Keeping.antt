@@ -1,35 +1,33 @@
 -- A legal move keeps the rules of a position.
-use Rattle.std.proofs.Common.{◌≡◌, ℕ, zero, suc, ◌+◌, ◌-◌, ◌*◌, ◌<◌, ◌≤◌, Bool, true, false, cond, not, ◌&&◌, ◌||◌, eqb, ◌≢◌, ◌⊎◌, List, [], ◌∷◌, ◌++◌, length, get_or, set, Some, None, Option, sym, refl, ap, ◌∙◌, subst, inl, inr, ⊎_elim, le_trans, arith, get_or-set_other, get_or-set_same}
+use Rattle.std.proofs.Common.{◌≡◌, ℕ, ◌+◌, ◌<◌, ◌≤◌, Bool, true, false, cond, not, ◌&&◌, eqb, ◌≢◌, ◌⊎◌, length, set, Some, None, Option, sym, refl, ap, ◌∙◌, subst, inl, inr, ⊎_elim, arith, get_or-set_other, get_or-set_same}
 use Rattle.std.proofs.lemmas.List.{length-set}
-use Rattle.std.proofs.lemmas.Bool.{and_parts, and_from, eqb-true, false≢true, cases_eq}
-use Rattle.std.proofs.lemmas.Bool.Decides.{not_from_Decides}
+use Rattle.std.proofs.lemmas.Bool.{and_parts, false≢true, cases_eq}
 use Rattle.board.specs.Squares.{file, row, away}
 use Rattle.chess_attacks.specs.declared.men.Man.{Man}
 use Rattle.chess_attacks.specs.declared.men.Kind.{Kind}
-use Rattle.chess_attacks.specs.declared.men.Kind.TheVariants.{King, Queen, Rook, Bishop, Knight, Pawn}
+use Rattle.chess_attacks.specs.declared.men.Kind.TheVariants.{Pawn}
 use Rattle.chess_attacks.specs.declared.men.Side.{Side}
 use Rattle.chess_attacks.specs.declared.men.Side.TheVariants.{White, Black}
 use Rattle.chess_attacks.specs.Men.{Squares, on, given, other, same_side, is_king, is_pawn, of, king_of}
 use Rattle.chess_attacks.specs.Commands.{Commands, Attacked, Checked}
 use Rattle.chess_attacks.specs.Lists.{beside, numbered}
 use Rattle.chess_attacks.proofs.Sides.{side-true, side_same, other-twice, king_is, pawn_kind}
-use Rattle.chess_attacks.proofs.Back.{back}
 use Rattle.chess_moves.specs.declared.diagram.Diagram.{Diagram}
 use Rattle.chess_moves.specs.declared.step.Move.{Move}
 use Rattle.chess_moves.specs.declared.step.Promotion.{Promotion}
 use Rattle.chess_moves.specs.declared.step.Promotion.TheVariants.{Queen as ToQueen, Rook as ToRook, Bishop as ToBishop, Knight as ToKnight}
-use Rattle.chess_moves.specs.Pawns.{forward, start_row, last_row, kind_of, becoming, is_passing, en_passant, two_rows, squared, passes}
+use Rattle.chess_moves.specs.Pawns.{forward, last_row, kind_of, becoming, is_passing, en_passant, two_rows, squared, passes}
 use Rattle.chess_moves.specs.After.{moved, less_passed, after, played}
 use Rattle.chess_moves.specs.Moves.{passing_of}
 use Rattle.chess_moves.specs.Count.{men, kings, tally}
-use Rattle.chess_moves.specs.Legal.{Holds, Ahead, Goes, AtEnd, Becomes, Legal}
-use Rattle.chess_moves.specs.Legal.Goes.{officer, step, two_step, capture, en_passant as takes-passing}
+use Rattle.chess_moves.specs.Legal.{Holds, Goes, Becomes, Legal}
+use Rattle.chess_moves.specs.Legal.Goes.{officer, step, two_step, capture, en_passant as takes_passing}
 use Rattle.chess_moves.proofs.Legality.{holds_means, passing_from}
 use Rattle.chess_moves.proofs.Numbers.{numbered_is}
-use Rattle.chess_rules.specs.Lawful.{passed_row, came_from, went_to, pawn_of, Passed, EnPassant, Lawful}
+use Rattle.chess_rules.specs.Lawful.{went_to, pawn_of, Passed, EnPassant, Lawful}
 use Rattle.chess_rules.specs.Keeping.{MovesKeep}
 use Rattle.chess_rules.proofs.Tallies.{unit, tally_set}
-use Rattle.chess_rules.proofs.Paths.{Rows, pawn-rows, between, Over, stepped-over, over-beside, over-within, over-apart, over_end, new_passed, back_step, went_in, went_off}
+use Rattle.chess_rules.proofs.Paths.{pawn-rows, between, Over, stepped-over, over-beside, over-within, over-apart, over_end, new_passed, back_step, went_in, went_off}
 
 -- the rules of a board, with the side to move and the square that a pawn has just passed
 pub record Ruled (b : Squares) (a : Side) (e : Option ℕ) : Type 0 where
@@ -120,7 +118,7 @@ module _ (b : Squares) (e : Option ℕ) (m : Man) (f t : ℕ) (q : Option Promot
   not_own (step p h c) = ap (of a) c
   not_own (two_step p r x h c) = ap (of a) c
   not_own (capture p c h) = other-not a (on b t) ((holds_means b (other a) t).1 h)
-  not_own (takes-passing p c h) = ap (of a) (passed_at e law.passing h).clear
+  not_own (takes_passing p c h) = ap (of a) (passed_at e law.passing h).clear
 
   -- to take a king, the side that has just moved would have left it attacked
   hit : Commands b m f t → (x : Bool) → king_of (other a) (on b t) ≡ x → x ≡ false
@@ -134,7 +132,7 @@ module _ (b : Squares) (e : Option ℕ) (m : Man) (f t : ℕ) (q : Option Promot
   not_king (step p h c) = ap (king_of (other a)) c
   not_king (two_step p r x h c) = ap (king_of (other a)) c
   not_king (capture p c h) = hit c (king_of (other a) (on b t)) refl
-  not_king (takes-passing p c h) = hit c (king_of (other a) (on b t)) refl
+  not_king (takes_passing p c h) = hit c (king_of (other a) (on b t)) refl
 
   no_king : (c : Side) → king_of c (on b t) ≡ false
   no_king = either_side (λ c. king_of c (on b t) ≡ false) a (own_king a (on b t) (not_own way)) (not_king way)

@@ -1,13 +1,12 @@
 -- A position's list holds all of its legal moves, and each leads to a position.
-use Rattle.std.proofs.Common.{◌≡◌, ℕ, zero, suc, ◌<◌, ◌≤◌, Bool, true, false, List, [], ◌∷◌, length, get_or, Some, None, Option, sym, refl, ap, ◌∙◌, subst, arith}
+use Rattle.std.proofs.Common.{◌≡◌, ℕ, zero, suc, ◌≤◌, true, List, [], ◌∷◌, Some, arith}
 use Rattle.std.specs.List.{slice_get, ContainsAt as Has}
 use Rattle.chess_moves.specs.declared.diagram.Diagram.{Diagram}
-use Rattle.chess_moves.specs.declared.list.MoveList.{MoveList}
 use Rattle.chess_moves.specs.declared.step.Move.{Move}
 use Rattle.chess_moves.specs.After.{played}
 use Rattle.chess_moves.specs.Count.{men, kings}
 use Rattle.chess_moves.specs.Legal.{Lists}
-use Rattle.chess_moves.specs.Moves.{legal_moves, listed}
+use Rattle.chess_moves.specs.Moves.{legal_moves}
 use Rattle.chess_rules.specs.Lawful.{Lawful, lawful}
 use Rattle.chess_rules.proofs.Tested.{lawful_means}
 use Rattle.chess_rules.proofs.Keeping.{moves-keep}

@@ -1,23 +1,23 @@
 -- Where a man that goes comes to: rows, the square's former man, and the square that a pawn passes.
-use Rattle.std.proofs.Common.{◌≡◌, ℕ, zero, suc, ◌+◌, ◌-◌, ◌*◌, ◌/◌, ◌%◌, ◌<◌, ◌≤◌, Bool, true, false, cond, not, ◌&&◌, ◌||◌, eqb, ltb, ◌≢◌, ◌⊎◌, Some, None, Option, sym, refl, ap, ◌∙◌, subst, inl, inr, ⊎_elim, arith}
-use Rattle.std.proofs.lemmas.Bool.{eqb-true, or_cases, lt-ltb, false≢true}
-use Rattle.board.specs.Squares.{file, row, reach, away}
+use Rattle.std.proofs.Common.{◌≡◌, ℕ, ◌+◌, ◌<◌, ◌≤◌, true, eqb, ◌≢◌, Some, None, Option, ap, ◌∙◌, ⊎_elim, arith}
+use Rattle.std.proofs.lemmas.Bool.{eqb-true, or_cases, lt-ltb}
+use Rattle.board.specs.Squares.{row, reach, away}
 use Rattle.board.specs.declared.direction.Direction.{Direction}
 use Rattle.board.specs.declared.direction.Direction.TheVariants.{North, NorthEast, East, SouthEast, South, SouthWest, West, NorthWest}
 use Rattle.chess_attacks.specs.declared.men.Man.{Man}
 use Rattle.chess_attacks.specs.declared.men.Kind.{Kind}
-use Rattle.chess_attacks.specs.declared.men.Kind.TheVariants.{King, Queen, Rook, Bishop, Knight, Pawn}
+use Rattle.chess_attacks.specs.declared.men.Kind.TheVariants.{Pawn}
 use Rattle.chess_attacks.specs.declared.men.Side.{Side}
 use Rattle.chess_attacks.specs.declared.men.Side.TheVariants.{White, Black}
 use Rattle.chess_attacks.specs.Men.{Squares, on, other}
 use Rattle.chess_attacks.specs.Ranges.{range_of, ahead}
-use Rattle.chess_attacks.specs.Commands.{Along, Commands}
+use Rattle.chess_attacks.specs.Commands.{Commands}
 use Rattle.chess_attacks.specs.Commands.Commands.{by_line, by_leap}
 use Rattle.chess_attacks.specs.Lists.{beside, when}
 use Rattle.chess_moves.specs.Pawns.{forward, start_row, last_row, two_rows}
-use Rattle.chess_moves.specs.Legal.{Holds, Ahead, Goes}
+use Rattle.chess_moves.specs.Legal.{Ahead, Goes}
 use Rattle.chess_moves.specs.Legal.Goes.{officer, step, two_step, capture, en_passant}
-use Rattle.chess_rules.specs.Lawful.{passed_row, home_row, stand_row, came_from, went_to, pawn_of, Passed}
+use Rattle.chess_rules.specs.Lawful.{passed_row, came_from, went_to, pawn_of, Passed}
 
 abbrev pub man_of : Side → Kind → Man
 man_of a k = record { side = a; kind = k }

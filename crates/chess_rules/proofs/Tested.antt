@@ -1,14 +1,13 @@
 -- The test of a position's rules tells what the rules say.
-use Rattle.std.proofs.Common.{◌≡◌, ℕ, zero, suc, ◌+◌, ◌<◌, ◌≤◌, Bool, true, false, cond, not, ◌&&◌, eqb, ltb, leb, length, Some, None, Decides, Option, sym, refl, ap, ◌∙◌, add-one, arith}
-use Rattle.std.proofs.lemmas.Bool.{and_parts, and_from, and_right, eqb-true, eq-eqb, leb-true, le-leb, ltb-true, lt-ltb, false≢true}
-use Rattle.std.proofs.lemmas.Bool.Decides.{Decides-below_and, Decides-and, Decides-not, Decides-like, same_from_decides}
+use Rattle.std.proofs.Common.{◌≡◌, ℕ, ◌+◌, ◌<◌, ◌≤◌, Bool, true, false, cond, not, ◌&&◌, eqb, ltb, leb, length, Some, None, Decides, Option, sym, refl, ap, ◌∙◌, add-one}
+use Rattle.std.proofs.lemmas.Bool.{and_parts, and_from, eqb-true, eq-eqb, leb-true, le-leb, ltb-true, lt-ltb, false≢true}
+use Rattle.std.proofs.lemmas.Bool.Decides.{Decides-below_and, Decides-not}
 use Rattle.board.specs.Squares.{row}
 use Rattle.chess_attacks.specs.declared.men.Man.{Man}
-use Rattle.chess_attacks.specs.declared.men.Kind.{Kind}
 use Rattle.chess_attacks.specs.declared.men.Kind.TheVariants.{Pawn}
 use Rattle.chess_attacks.specs.declared.men.Side.{Side}
 use Rattle.chess_attacks.specs.declared.men.Side.TheVariants.{White, Black}
-use Rattle.chess_attacks.specs.Men.{Squares, on, given, other, same_side, is_pawn}
+use Rattle.chess_attacks.specs.Men.{Squares, on, other, same_side, is_pawn}
 use Rattle.chess_attacks.specs.Commands.{Checked}
 use Rattle.chess_attacks.specs.Lists.{checked}
 use Rattle.chess_attacks.proofs.Sides.{side-true, side_same, pawn_kind}
@@ -17,7 +16,7 @@ use Rattle.chess_moves.specs.declared.diagram.Diagram.{Diagram}
 use Rattle.chess_moves.specs.Moves.{empty, passing_of}
 use Rattle.chess_moves.specs.Count.{men, kings}
 use Rattle.chess_moves.proofs.Legality.{empty-none}
-use Rattle.chess_rules.specs.Lawful.{passed_row, came_from, went_to, pawn_of, Passed, EnPassant, Lawful, side_fine, holds_pawn, inner, pawns_inner, is_pawn_of, passing_fine, rules_kept, lawful}
+use Rattle.chess_rules.specs.Lawful.{passed_row, came_from, went_to, pawn_of, EnPassant, Lawful, side_fine, holds_pawn, inner, pawns_inner, is_pawn_of, passing_fine, rules_kept, lawful}
 
 -- what stands on a square
 pawn-from : (a : Side) (o : Option Man) → is_pawn_of a o ≡ true → o ≡ pawn_of a

@@ -1,16 +1,16 @@
 -- The texts of diagrams are the texts of the grammar.
-use Rattle.std.proofs.Common.{◌≡◌, ℕ, zero, suc, ◌+◌, ◌-◌, ◌<◌, ◌≤◌, Bool, true, false, List, [], ◌∷◌, ◌++◌, length, set, replicate, Some, None, Option, sym, refl, ap, ◌∙◌, subst, arith, MatchOption}
+use Rattle.std.proofs.Common.{◌≡◌, ℕ, zero, suc, ◌+◌, ◌≤◌, Bool, true, false, List, [], ◌∷◌, ◌++◌, length, set, replicate, Some, None, Option, sym, refl, ap, ◌∙◌, subst, arith}
 use Rattle.std.proofs.lemmas.List.{append_assoc, append-nil}
 use Rattle.board.specs.declared.square.Square.{Square}
 use Rattle.form.specs.Forms.{led}
-use Rattle.chess_text.specs.Letters.{blank, slash, letter, man as the-man}
+use Rattle.chess_text.specs.Letters.{blank, slash, letter, man as the_man}
 use Rattle.chess_attacks.specs.Men.{Squares as Board}
-use Rattle.chess_text.specs.Diagrams.{cells, number, row_text, below, fields, IsPassable, placement, Stands, Texts}
+use Rattle.chess_text.specs.Diagrams.{cells, number, row_text, below, fields, placement, Texts}
 use Rattle.chess_text.specs.Grammar.{Row, full, man, run, Rows, last, next, Fen, SameTexts}
 use Rattle.chess_text.specs.Reading.{reader, here, empty, form}
 use Rattle.chess_attacks.specs.declared.men.Man.{Man}
 use Rattle.chess_attacks.specs.declared.men.Side.{Side}
-use Rattle.chess_attacks.specs.declared.men.Side.TheVariants.{White, Black}
+use Rattle.chess_attacks.specs.declared.men.Side.TheVariants.{White}
 use Rattle.chess_text.specs.declared.reader.Reader.{Reader}
 use Rattle.chess_text.specs.declared.reader.Awaits.TheVariants.{Squares, Blanks}
 use Rattle.chess_text.specs.Steps.{next_man, next_run, next_slash}
@@ -72,8 +72,8 @@ row-led : {d : Bool} {n : ℕ} {t : List ℕ} → Row d n t → (row : ℕ) (u :
     → ((y : Board) (g : Bool) → Leads (reader (Squares row 0 g) y White None) u m p) → Leads (reader (Squares row n d) x White None) (t ++ u) m p
 row-led {d} full row u x m p f = f x d
 row-led {d} (man {n = n} s k r) row u x m p f =
-    on _ _ (letter s k) _ m p (next_man row n d x White None (the-man s k))
-    (row-led r row u (set x (here row (suc n)) (Some (the-man s k))) m p f)
+    on _ _ (letter s k) _ m p (next_man row n d x White None (the_man s k))
+    (row-led r row u (set x (here row (suc n)) (Some (the_man s k))) m p f)
 row-led (run {n = n} zero h l r) row u x m p f = absurd (omega arith)
 row-led (run {n = n} (suc k) h l r) row u x m p f =
     on _ _ (48 + suc k) _ m p (next_run row n k x White None (omega arith)) (row-led r row u x m p f)

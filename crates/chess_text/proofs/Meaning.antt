@@ -1,26 +1,25 @@
 -- The texts that are read are the texts of diagrams, and each is read as its diagram.
-use Rattle.std.proofs.Common.{◌≡◌, ℕ, zero, suc, ◌+◌, ◌-◌, ◌*◌, ◌/◌, ◌%◌, ◌<◌, ◌≤◌, Bool, true, false, cond, not, ◌&&◌, eqb, leb, ◌≢◌, ◌⊎◌, List, [], ◌∷◌, ◌++◌, length, get_or, set, replicate, IfSome, Some, None, Option, sym, refl, ap, ◌∙◌, subst, ap₂, inl, inr, arith}
+use Rattle.std.proofs.Common.{◌≡◌, ℕ, zero, suc, ◌+◌, ◌-◌, ◌*◌, ◌<◌, ◌≤◌, Bool, true, false, cond, eqb, List, [], ◌∷◌, ◌++◌, length, get_or, set, replicate, IfSome, Some, None, Option, sym, refl, ap, ◌∙◌, subst, inl, inr, arith}
 use Rattle.std.proofs.lemmas.Bool.Decides.{nat_tests}
-use Rattle.std.proofs.lemmas.Bool.{eq-eqb, ne_eqb, eqb-true, cases_eq, cases_lt}
-use Rattle.std.proofs.lemmas.List.{length-set, get_or-set_same, get_or-set_other, append_assoc, ext_get_or}
+use Rattle.std.proofs.lemmas.Bool.{cases_eq, cases_lt}
+use Rattle.std.proofs.lemmas.List.{get_or-set_same, get_or-set_other, append_assoc, ext_get_or}
 use Rattle.board.specs.declared.square.Square.{Square}
-use Rattle.form.specs.Forms.{Form, given, led, Says, TextsOf}
-use Rattle.chess_text.specs.Letters.{blank, dash, slash, man_of, side_of, run_of, file_of, letter, side_letter}
+use Rattle.form.specs.Forms.{given, led, Says, TextsOf}
+use Rattle.chess_text.specs.Letters.{blank, dash, slash, side_of, file_of, letter, side_letter}
 use Rattle.chess_attacks.specs.Men.{Squares as Board, on}
-use Rattle.chess_text.specs.Diagrams.{cells, number, row_text, below, fields, passing_text, IsPassable, written, Stands, Texts}
+use Rattle.chess_text.specs.Diagrams.{cells, number, row_text, below, fields, passing_text, IsPassable, Stands, Texts}
 use Rattle.board.specs.Squares.{square_at, file, row}
-use Rattle.chess_text.specs.Reading.{square, reader, here, when, row_step, square_step, step, said, empty, form}
+use Rattle.chess_text.specs.Reading.{reader, here, empty, form}
 use Rattle.chess_attacks.specs.declared.men.Man.{Man}
 use Rattle.chess_attacks.specs.declared.men.Side.{Side}
 use Rattle.chess_attacks.specs.declared.men.Side.TheVariants.{White, Black}
 use Rattle.chess_moves.specs.declared.diagram.Diagram.{Diagram}
 use Rattle.chess_text.specs.declared.reader.Reader.{Reader}
-use Rattle.chess_text.specs.declared.reader.Awaits.{Awaits}
 use Rattle.chess_text.specs.declared.reader.Awaits.TheVariants.{Squares, Mover, GapToRights, Rights, GapToPassing, Passing, PassingRow, Blanks}
 use Rattle.chess_text.proofs.Squares.{square-of}
-use Rattle.chess_text.specs.Steps.{none, next_man, next_run, next_slash, empty_length}
+use Rattle.chess_text.specs.Steps.{next_man, next_run, next_slash, empty_length}
 use Rattle.chess_text.proofs.Tails.{Gives}
-use Rattle.chess_text.proofs.Rows.{ManFirst, Open, Rest, rows, open_man, open_row}
+use Rattle.chess_text.proofs.Rows.{ManFirst, Open, rows, open_man, open_row}
 
 -- ---- what is read is the text of a diagram
 

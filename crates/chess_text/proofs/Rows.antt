@@ -1,21 +1,20 @@
 -- What the rest of a text says, from the squares of a row on.
-use Rattle.std.proofs.Common.{◌≡◌, ℕ, zero, suc, ◌+◌, ◌-◌, ◌*◌, ◌/◌, ◌%◌, ◌<◌, ◌≤◌, Bool, true, false, cond, not, ◌&&◌, eqb, leb, ◌≢◌, ◌⊎◌, List, [], ◌∷◌, ◌++◌, length, get_or, set, replicate, IfSome, Some, None, Option, sym, refl, ap, ◌∙◌, subst, ap₂, inl, inr, arith}
+use Rattle.std.proofs.Common.{◌≡◌, ℕ, zero, suc, ◌+◌, ◌-◌, ◌*◌, ◌<◌, ◌≤◌, Bool, true, false, cond, not, ◌&&◌, eqb, leb, List, [], ◌∷◌, ◌++◌, length, set, replicate, IfSome, Some, None, Option, sym, refl, ap, ◌∙◌, subst, ap₂, arith}
 use Rattle.std.proofs.lemmas.Bool.Decides.{nat_tests}
-use Rattle.std.proofs.lemmas.Bool.{eq-eqb, ne_eqb, eqb-true}
-use Rattle.std.proofs.lemmas.List.{length-set, get_or-set_same, get_or-set_other, append_assoc}
+use Rattle.std.proofs.lemmas.Bool.{eqb-true}
+use Rattle.std.proofs.lemmas.List.{length-set, get_or-set_same, get_or-set_other}
 use Rattle.board.specs.declared.square.Square.{Square}
-use Rattle.form.specs.Forms.{Form, given, led}
-use Rattle.chess_text.specs.Letters.{blank, dash, slash, man_of, side_of, run_of, file_of, letter, side_letter}
+use Rattle.form.specs.Forms.{led}
+use Rattle.chess_text.specs.Letters.{blank, slash, man_of, run_of, letter}
 use Rattle.chess_attacks.specs.Men.{Squares as Board, on}
-use Rattle.chess_text.specs.Diagrams.{cells, number, row_text, below, fields, passing_text, IsPassable}
-use Rattle.chess_text.specs.Reading.{reader, here, when, row_step, square_step, step, said, form}
+use Rattle.chess_text.specs.Diagrams.{cells, row_text, below, fields, IsPassable}
+use Rattle.chess_text.specs.Reading.{reader, here, when, row_step, square_step, form}
 use Rattle.chess_attacks.specs.declared.men.Man.{Man}
 use Rattle.chess_attacks.specs.declared.men.Side.{Side}
 use Rattle.chess_moves.specs.declared.diagram.Diagram.{Diagram}
 use Rattle.chess_text.specs.declared.reader.Reader.{Reader}
-use Rattle.chess_text.specs.declared.reader.Awaits.{Awaits}
-use Rattle.chess_text.specs.declared.reader.Awaits.TheVariants.{Squares, Mover, GapToRights, Rights, GapToPassing, Passing, PassingRow, Blanks}
-use Rattle.chess_text.specs.Steps.{none, by_when, by_some, by_given, by_cond}
+use Rattle.chess_text.specs.declared.reader.Awaits.TheVariants.{Squares, Mover}
+use Rattle.chess_text.specs.Steps.{none, by_when, by_some, by_given}
 use Rattle.chess_text.proofs.Tails.{letter-of, run_byte, stepped, Gives, unended, Tail, mover_tail}
 
 -- ---- runs of empty squares in a row's text

@@ -1,14 +1,14 @@
 -- What the end of a text says, from each state on.
-use Rattle.std.proofs.Common.{◌≡◌, ℕ, zero, suc, ◌+◌, ◌-◌, ◌*◌, ◌/◌, ◌%◌, ◌<◌, ◌≤◌, Bool, true, false, cond, not, ◌&&◌, eqb, leb, ◌⊎◌, List, [], ◌∷◌, ◌++◌, length, set, replicate, IfSome, Some, None, Option, sym, refl, ap, ◌∙◌, subst, ap₂, inl, inr, ⊎_elim, arith}
+use Rattle.std.proofs.Common.{◌≡◌, ℕ, suc, ◌+◌, ◌<◌, ◌≤◌, Bool, true, false, cond, eqb, ◌⊎◌, List, [], ◌∷◌, ◌++◌, replicate, IfSome, Some, None, Option, sym, refl, ap, ◌∙◌, subst, ap₂, inl, inr, ⊎_elim, arith}
 use Rattle.std.proofs.lemmas.Bool.Decides.{nat_tests}
-use Rattle.std.proofs.lemmas.Bool.{eq-eqb, ne_eqb, eqb-true}
+use Rattle.std.proofs.lemmas.Bool.{eqb-true}
 use Rattle.board.specs.declared.square.Square.{Square}
-use Rattle.form.specs.Forms.{Form, given, led}
-use Rattle.chess_text.specs.Letters.{blank, dash, slash, man_of, side_of, run_of, file_of, letter, side_letter, man, case}
+use Rattle.form.specs.Forms.{given, led}
+use Rattle.chess_text.specs.Letters.{blank, dash, man_of, side_of, run_of, file_of, letter, side_letter, man, case}
 use Rattle.chess_attacks.specs.Men.{Squares as Board}
 use Rattle.chess_text.specs.Diagrams.{passing_text, IsPassable}
 use Rattle.board.specs.Squares.{square_at, file, row}
-use Rattle.chess_text.specs.Reading.{square, reader, when, step, said, form}
+use Rattle.chess_text.specs.Reading.{square, reader, when, said, form}
 use Rattle.chess_attacks.specs.declared.men.Man.{Man}
 use Rattle.chess_attacks.specs.declared.men.Kind.{Kind}
 use Rattle.chess_attacks.specs.declared.men.Kind.TheVariants.{King, Queen, Rook, Bishop, Knight, Pawn}
@@ -17,7 +17,7 @@ use Rattle.chess_attacks.specs.declared.men.Side.TheVariants.{White, Black}
 use Rattle.chess_moves.specs.declared.diagram.Diagram.{Diagram}
 use Rattle.chess_text.specs.declared.reader.Reader.{Reader}
 use Rattle.chess_text.specs.declared.reader.Awaits.{Awaits}
-use Rattle.chess_text.specs.declared.reader.Awaits.TheVariants.{Squares, Mover, GapToRights, Rights, GapToPassing, Passing, PassingRow, Blanks}
+use Rattle.chess_text.specs.declared.reader.Awaits.TheVariants.{Mover, GapToRights, Rights, GapToPassing, Passing, PassingRow, Blanks}
 use Rattle.chess_text.proofs.Squares.{at}
 use Rattle.chess_text.specs.Steps.{none, by_when, by_some, by_given, by_cond}
 

@@ -1,14 +1,13 @@
 -- A diagram's text, read byte by byte.
-use Rattle.std.specs.Prelude.{◌≡◌, ℕ, zero, suc, ◌+◌, ◌-◌, ◌*◌, ◌<◌, ◌≤◌, Bool, true, false, cond, not, ◌&&◌, T, List, length, replicate, Some, None, Option, ◌==◌, nat_le, nat_lt, slice_set}
+use Rattle.std.specs.Prelude.{◌≡◌, ℕ, ◌+◌, ◌-◌, ◌*◌, ◌<◌, ◌≤◌, Bool, true, false, cond, not, ◌&&◌, T, length, replicate, Some, None, Option, ◌==◌, nat_le, nat_lt, slice_set}
 use Rattle.std.proofs.Common.{ltb→lt}
 use Rattle.form.specs.Forms.{Form, given}
 use Rattle.board.specs.Squares.{square_at}
 use Rattle.board.specs.declared.square.Square.{Square}
 use Rattle.chess_text.specs.Letters.{blank, dash, slash, man_of, side_of, run_of, file_of}
 use Rattle.chess_attacks.specs.Men.{Squares as Board}
-use Rattle.chess_attacks.specs.declared.men.Man.{Man}
 use Rattle.chess_attacks.specs.declared.men.Side.{Side}
-use Rattle.chess_attacks.specs.declared.men.Side.TheVariants.{White, Black}
+use Rattle.chess_attacks.specs.declared.men.Side.TheVariants.{White}
 use Rattle.chess_moves.specs.declared.diagram.Diagram.{Diagram}
 use Rattle.chess_text.specs.declared.reader.Reader.{Reader}
 use Rattle.chess_text.specs.declared.reader.Awaits.{Awaits}

@@ -1,13 +1,10 @@
 -- Worked texts.
-use Rattle.std.specs.Prelude.{◌≡◌, ℕ, List, [], ◌∷◌, ◌++◌, replicate, Some, None, Ok, Err, codes, Option, Result, slice_set}
+use Rattle.std.specs.Prelude.{◌≡◌, ℕ, List, [], replicate, Some, None, Ok, Err, codes, Result, slice_set}
 use Rattle.form.specs.Forms.{reading}
 use Rattle.chess_text.specs.Letters.{man}
-use Rattle.chess_attacks.specs.Men.{Squares}
 use Rattle.chess_text.specs.Diagrams.{written}
 use Rattle.chess_text.specs.Reading.{square, form}
-use Rattle.chess_attacks.specs.declared.men.Man.{Man}
-use Rattle.chess_attacks.specs.declared.men.Kind.TheVariants.{King, Queen, Rook, Bishop, Knight, Pawn}
-use Rattle.chess_attacks.specs.declared.men.Side.{Side}
+use Rattle.chess_attacks.specs.declared.men.Kind.TheVariants.{King, Pawn}
 use Rattle.chess_attacks.specs.declared.men.Side.TheVariants.{White, Black}
 use Rattle.chess_moves.specs.declared.diagram.Diagram.{Diagram}
 

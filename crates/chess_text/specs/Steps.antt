@@ -1,21 +1,19 @@
 -- The states of the reader: those on the board stay there, and each is live.
-use Rattle.std.specs.Prelude.{◌≡◌, ℕ, zero, suc, ◌+◌, ◌-◌, ◌^◌, ◌<◌, ◌≤◌, Bool, true, false, cond, not, ◌&&◌, leb, List, [], ◌∷◌, ◌++◌, length, replicate, Some, None, Option, ◌==◌, nat_eq, nat_le, slice_set, refl}
-use Rattle.std.proofs.Common.{sym, ap, ◌∙◌, subst, arith}
+use Rattle.std.specs.Prelude.{◌≡◌, ℕ, zero, suc, ◌+◌, ◌-◌, ◌<◌, ◌≤◌, Bool, true, false, cond, not, ◌&&◌, leb, [], ◌∷◌, length, Some, None, Option, ◌==◌, nat_eq, nat_le, slice_set, refl}
+use Rattle.std.proofs.Common.{ap, ◌∙◌, subst, arith}
 use Rattle.std.proofs.lemmas.Bool.Decides.{nat_tests}
-use Rattle.std.proofs.lemmas.Bool.{eq-eqb, ne_eqb, eqb-true}
-use Rattle.std.proofs.lemmas.List.{length-set, length-replicate}
+use Rattle.std.proofs.lemmas.List.{length-set}
 use Rattle.board.specs.declared.square.Square.{Square}
-use Rattle.form.specs.Forms.{Form, given, led, Live, Lively}
+use Rattle.form.specs.Forms.{given, led, Live, Lively}
 use Rattle.chess_text.specs.Letters.{blank, dash, slash, man_of, side_of, run_of, file_of, letter, man}
 use Rattle.chess_attacks.specs.Men.{Squares as Board}
 use Rattle.board.specs.Squares.{square_at}
-use Rattle.chess_text.specs.Reading.{square, reader, here, when, square_step, row_step, step, said, empty, form, OnBoard, IsFit}
+use Rattle.chess_text.specs.Reading.{square, reader, here, when, square_step, row_step, step, empty, form, OnBoard, IsFit}
 use Rattle.chess_attacks.specs.declared.men.Man.{Man}
 use Rattle.chess_attacks.specs.declared.men.Kind.{Kind}
 use Rattle.chess_attacks.specs.declared.men.Kind.TheVariants.{King, Queen, Rook, Bishop, Knight, Pawn}
 use Rattle.chess_attacks.specs.declared.men.Side.{Side}
 use Rattle.chess_attacks.specs.declared.men.Side.TheVariants.{White, Black}
-use Rattle.chess_moves.specs.declared.diagram.Diagram.{Diagram}
 use Rattle.chess_text.specs.declared.reader.Reader.{Reader}
 use Rattle.chess_text.specs.declared.reader.Awaits.{Awaits}
 use Rattle.chess_text.specs.declared.reader.Awaits.TheVariants.{Squares, Mover, GapToRights, Rights, GapToPassing, Passing, PassingRow, Blanks}

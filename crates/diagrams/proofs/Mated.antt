@@ -1,5 +1,5 @@
 -- The mates in one, computed.
-use Rattle.std.proofs.Common.{◌≡◌, ℕ, ◌≤◌, Bool, true, false, cond, List, [], ◌∷◌, ◌++◌, length, get_or, Some, None, codes, Option, sym, refl, ap, ◌∙◌, subst, append-nil, lit≤}
+use Rattle.std.proofs.Common.{◌≡◌, ℕ, ◌≤◌, Bool, true, false, cond, List, [], ◌∷◌, length, get_or, Some, codes, sym, refl, ap, ◌∙◌, subst, append-nil, lit≤}
 use Rattle.board.specs.Masks.{member}
 use Rattle.form.specs.Forms.{reading_from}
 use Rattle.game.specs.Tree.{Tree, position, state, nowhere, moves, next, words}
@@ -92,21 +92,21 @@ four-keys-mates = refl
 four-keys-writes : Writes four_keys_tree 18 four_keys_lines
 four-keys-writes = solved four_keys_tree 18 four_keys_flags four_keys_words four_keys_lines four-keys-stands four-keys-ended four-keys-wins four-keys-texts refl refl (lit≤ tt) four-keys-mates
 
-four-keys-set : reading_of (codes "7k/5K2/6Q1/8/8/8/8/8 w - -") 1 ≡ position four_keys_tree
+four_keys_set : reading_of (codes "7k/5K2/6Q1/8/8/8/8/8 w - -") 1 ≡ position four_keys_tree
 unfolding lawful rules_kept pawns_inner tally checked attacked attackers lines line leaps member reading_from man_of side_of run_of file_of empty
-four-keys-set = refl
+four_keys_set = refl
 
 pub mates : Mates
 mates = record {
-  one_key_set = worked.back-row-set;
+  one_key_set = worked.back_row_set;
   one_key_count = worked.count;
   one_key_text = worked.text;
   one_key = one_key-writes;
   one_key_keys = (refl, refl);
-  four-keys-set = four-keys-set;
+  four_keys_set = four_keys_set;
   four_keys_text = ap (λ (xs : List (List ℕ)). get_or xs 18 []) four-keys-texts;
   four_keys = four-keys-writes;
   four_keys_keys = (refl, refl);
-  stalemate-set = worked.stalemate-set;
+  stalemate_set = worked.stalemate_set;
   stalemate_ended = worked.stale;
 }

@@ -1,5 +1,5 @@
 -- The Othello ending, computed.
-use Rattle.std.proofs.Common.{◌≡◌, ℕ, true, List, [], ◌∷◌, map, codes, sym, refl, ap, ◌∙◌, subst, lit<, lit≤}
+use Rattle.std.proofs.Common.{◌≡◌, true, [], ◌∷◌, map, codes, sym, refl, ap, ◌∙◌, subst, lit<, lit≤}
 use Rattle.board.specs.Masks.{bit, member, word, size}
 use Rattle.form.specs.Forms.{reading_from}
 use Rattle.game.specs.Tree.{Tree, node, none, move, position, next, words, minimax, some_won, all_won}
@@ -41,13 +41,13 @@ passing-is = refl
 
 -- what the texts set up
 
-to-place-set : reading (codes ".OXXXXXXXXXXXXXXXXXXXXXXXXXXXXXXXXXXXXXXXXXXXXXXXXXXXXXXXXXXXXXX X") 64 ≡ position to_place
+to_place_set : reading (codes ".OXXXXXXXXXXXXXXXXXXXXXXXXXXXXXXXXXXXXXXXXXXXXXXXXXXXXXXXXXXXXXX X") 64 ≡ position to_place
 unfolding reading_from empties size bit
-to-place-set = refl
+to_place_set = refl
 
-to_pass-set : reading (codes ".OXXXXXXXXXXXXXXXXXXXXXXXXXXXXXXXXXXXXXXXXXXXXXXXXXXXXXXXXXXXXXX O") 0 ≡ position to_pass
+to_pass_set : reading (codes ".OXXXXXXXXXXXXXXXXXXXXXXXXXXXXXXXXXXXXXXXXXXXXXXXXXXXXXXXXXXXXXX O") 0 ≡ position to_pass
 unfolding reading_from empties size bit
-to_pass-set = refl
+to_pass_set = refl
 
 -- the key
 
@@ -78,10 +78,10 @@ twice = (_, by_the_run refl (runs_after newest 40 (start nothing 2 passing) (gav
 
 pub endings : Endings
 endings = record {
-  to-place-set = to-place-set;
+  to_place_set = to_place_set;
   only_move = ap words placing-is;
   only_key = ap (λ (t : Tree). map minimax (next t)) placing-is ∙ only_key;
-  to_pass-set = to_pass-set;
+  to_pass_set = to_pass_set;
   four = subst (λ (t : Tree). Trial forget nothing t 4 (answer verdict.NotWon 2 0) nothing) (sym passing-is) four;
   three = subst (λ (t : Tree). Trial forget nothing t 3 (answer verdict.NotWon 1 2) nothing) (sym passing-is) three;
   two = subst (λ (t : Tree). Trial forget nothing t 2 (answer verdict.Spent 1 1) nothing) (sym passing-is) two;

@@ -1,10 +1,9 @@
 -- An Othello ending with one empty square: row 1 is `.OXXXXXX`, all else X. Its key, and its trials with both policies.
-use Rattle.std.specs.Prelude.{◌≡◌, ℕ, ◌-◌, ◌^◌, true, List, [], ◌∷◌, map, codes}
+use Rattle.std.specs.Prelude.{◌≡◌, ◌-◌, ◌^◌, true, [], ◌∷◌, map, codes}
 use Rattle.game.specs.Tree.{Tree, position, next, words, minimax}
 use Rattle.table.specs.Pairs.{Held, nothing}
 use Rattle.table.specs.Slots.{newest}
 use Rattle.search_laws.specs.declared.answer.Verdict.TheVariants.{NotWon, Spent}
-use Rattle.search_laws.specs.Run.{Storing}
 use Rattle.search_laws.specs.Trial.{Trial}
 use Rattle.search_laws.specs.Examples.{forget, answer}
 use Rattle.othello_rules.specs.declared.diagram.Diagram.{Diagram}
@@ -25,10 +24,10 @@ abbrev pub to_pass : Tree
 to_pass = tree O 0 (one_empty O)
 
 pub record Endings : Type 0 where
-  pub to-place-set : reading (codes ".OXXXXXXXXXXXXXXXXXXXXXXXXXXXXXXXXXXXXXXXXXXXXXXXXXXXXXXXXXXXXXX X") 64 ≡ position to_place
+  pub to_place_set : reading (codes ".OXXXXXXXXXXXXXXXXXXXXXXXXXXXXXXXXXXXXXXXXXXXXXXXXXXXXXXXXXXXXXX X") 64 ≡ position to_place
   pub only_move : words to_place ≡ codes "a1   " ∷ []
   pub only_key : map minimax (next to_place) ≡ true ∷ []
-  pub to_pass-set : reading (codes ".OXXXXXXXXXXXXXXXXXXXXXXXXXXXXXXXXXXXXXXXXXXXXXXXXXXXXXXXXXXXXXX O") 0 ≡ position to_pass
+  pub to_pass_set : reading (codes ".OXXXXXXXXXXXXXXXXXXXXXXXXXXXXXXXXXXXXXXXXXXXXXXXXXXXXXXXXXXXXXX O") 0 ≡ position to_pass
   -- with a table that keeps nothing
   pub four : Trial forget nothing to_pass 4 (answer NotWon 2 0) nothing
   pub three : Trial forget nothing to_pass 3 (answer NotWon 1 2) nothing

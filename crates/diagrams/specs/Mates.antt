@@ -7,7 +7,7 @@ use Rattle.table.specs.Pairs.{Held}
 use Rattle.search_laws.specs.Run.{Storing}
 use Rattle.solution_laws.specs.declared.ending.Ending.TheVariants.{Done}
 use Rattle.solution_laws.specs.Lines.{Line, keys, duals}
-use Rattle.solution_laws.specs.Solution.{Part, Solution, chosen_line, other_line}
+use Rattle.solution_laws.specs.Solution.{Solution, chosen_line, other_line}
 use Rattle.chess_attacks.specs.declared.men.Kind.TheVariants.{King, Queen}
 use Rattle.chess_attacks.specs.declared.men.Side.TheVariants.{White, Black}
 use Rattle.chess_moves.specs.declared.diagram.Diagram.{Diagram}
@@ -46,9 +46,9 @@ pub record Mates : Type 0 where
   pub one_key_text : slice_index_or (words back_row_tree) 11 [] ≡ codes "a1a8 "
   pub one_key : Writes back_row_tree 11 back_row_lines
   pub one_key_keys : (keys back_row_lines ≡ 1) × (duals back_row_lines ≡ 0)
-  pub four-keys-set : reading_of (codes "7k/5K2/6Q1/8/8/8/8/8 w - -") 1 ≡ position four_keys_tree
+  pub four_keys_set : reading_of (codes "7k/5K2/6Q1/8/8/8/8/8 w - -") 1 ≡ position four_keys_tree
   pub four_keys_text : slice_index_or (words four_keys_tree) 18 [] ≡ codes "g6g7 "
   pub four_keys : Writes four_keys_tree 18 four_keys_lines
   pub four_keys_keys : (keys four_keys_lines ≡ 4) × (duals four_keys_lines ≡ 0)
-  pub stalemate-set : reading_of (codes "7k/5Q2/6K1/8/8/8/8/8 b - -") 1 ≡ position (tree Black 1 stalemate)
+  pub stalemate_set : reading_of (codes "7k/5Q2/6K1/8/8/8/8/8 b - -") 1 ≡ position (tree Black 1 stalemate)
   pub stalemate_ended : state (tree Black 1 stalemate) ≡ NotWon

@@ -1,8 +1,8 @@
 -- The place where reading stops is the place where the text departs from the form.
-use Rattle.std.proofs.Common.{◌≡◌, ℕ, zero, suc, ◌+◌, ◌<◌, ◌≤◌, Bool, true, false, cond, ◌⊎◌, List, [], ◌∷◌, ◌++◌, length, get_or, take, drop, Some, None, Ok, Err, Option, Result, sym, refl, ap, ◌∙◌, subst, inl, inr, add-zero, add-suc, suc-add, arith, MatchResult}
+use Rattle.std.proofs.Common.{◌≡◌, ℕ, zero, suc, ◌+◌, ◌<◌, ◌≤◌, List, [], ◌∷◌, ◌++◌, length, get_or, take, Some, None, Ok, Err, Option, sym, refl, ap, ◌∙◌, subst, inl, inr, add-zero, arith}
 use Rattle.std.proofs.lemmas.Bool.{cases_order}
 use Rattle.std.proofs.lemmas.List.{append_assoc, append-nil, take_all}
-use Rattle.form.specs.Forms.{Begins, Departs, Form, given, led, Says, TextsOf, Live, reading_from, reading, Lively}
+use Rattle.form.specs.Forms.{Begins, Departs, Form, given, led, Says, TextsOf, reading_from, reading, Lively}
 
 -- a text after another
 pub led-append : {S A : Type 0} (f : Form S A) (s : S) (x y : List ℕ) → led f s (x ++ y) ≡ given (led f s x) None (λ u. led f u y)

@@ -1,7 +1,7 @@
 -- Positions with equal codes are the same tree.
-use Rattle.std.proofs.Common.{◌≡◌, ℕ, zero, suc, ◌<◌, List, [], ◌∷◌, length, get_or, refl, ap, suc-le-suc, arith}
+use Rattle.std.proofs.Common.{◌≡◌, ℕ, suc, ◌<◌, length, get_or, refl, suc-le-suc, arith}
 use Rattle.std.specs.List.{AllByRecursion}
-use Rattle.game.specs.Tree.{Tree, node, Moves, none, move, state, rank, code, next, successors, texts, nowhere}
+use Rattle.game.specs.Tree.{Tree, node, Moves, none, move, code, next, successors, texts, nowhere}
 use Rattle.game.specs.Rules.{Alike}
 
 module _ (positions : Tree → Type 0)

@@ -1,10 +1,10 @@
 -- A path of one position has room for every move that can come.
-use Rattle.std.proofs.Common.{◌≡◌, ℕ, ◌≤◌, true, List, [], ◌∷◌, map, ap, ◌∙◌, arith}
+use Rattle.std.proofs.Common.{◌≡◌, ◌≤◌, true, List, [], ◌∷◌, map, ap, ◌∙◌, arith}
 use Rattle.game.specs.Paths.{before, roomy, ranks}
 use Rattle.game.specs.declared.path.Path.{Path}
 use Rattle.game.proofs.Room.{roomy-one}
-use Rattle.othello_rules.specs.Diagrams.{empties, turn}
-use Rattle.othello.specs.Endings.{due, rank_of}
+use Rattle.othello_rules.specs.Diagrams.{turn}
+use Rattle.othello.specs.Endings.{rank_of}
 use Rattle.othello.specs.Positions.{position_rank}
 use Rattle.othello.specs.declared.position.Position.{Position}
 use Rattle.othello.specs.Grown.{due_le}

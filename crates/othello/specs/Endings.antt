@@ -1,5 +1,5 @@
 -- An Othello ending as a game: its moves, state, rank, code and tree. The attacker and the aim stay the same throughout.
-use Rattle.std.specs.Prelude.{◌≡◌, ℕ, zero, suc, ◌+◌, ◌*◌, ◌<◌, Bool, cond, List, [], ◌∷◌, ◌++◌, map, codes, nat_le}
+use Rattle.std.specs.Prelude.{◌≡◌, ℕ, zero, suc, ◌+◌, ◌*◌, Bool, cond, List, [], ◌∷◌, ◌++◌, map, codes, nat_le}
 use Rattle.game.specs.Tree.{Tree, node, Moves, none, move, nowhere}
 use Rattle.game.specs.declared.state.State.{State}
 use Rattle.game.specs.declared.state.State.TheVariants.{Won, NotWon, Attacker, Defender}

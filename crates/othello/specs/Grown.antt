@@ -1,12 +1,12 @@
 -- Each move leaves fewer moves, so the tree is finite, and its branches are trees of positions.
-use Rattle.std.specs.Prelude.{◌≡◌, ℕ, zero, suc, ◌+◌, ◌*◌, ◌<◌, ◌≤◌, Bool, true, false, cond, not, ◌&&◌, ◌||◌, List, [], ◌∷◌, map, filter, ◌==◌, refl}
-use Rattle.std.proofs.Common.{sym, ap, ap₂, ◌∙◌, subst, arith}
+use Rattle.std.specs.Prelude.{◌≡◌, ℕ, zero, suc, ◌+◌, ◌*◌, ◌<◌, ◌≤◌, Bool, true, false, not, ◌&&◌, ◌||◌, List, [], ◌∷◌, filter, ◌==◌, refl}
+use Rattle.std.proofs.Common.{sym, ap, ap₂, ◌∙◌, arith}
 use Rattle.std.proofs.Math.Bool.{or_comm}
 use Rattle.std.specs.List.{range_with_len, AllByRecursion}
 use Rattle.std.proofs.lemmas.Bool.{and_parts, eq-eqb}
 use Rattle.std.proofs.ByRecursion.{kept_by_passes, all_kept_by, All-map, All-weaker}
-use Rattle.game.specs.Tree.{Tree, node, Moves, none, move}
-use Rattle.board.specs.Masks.{bit, member, word, size}
+use Rattle.game.specs.Tree.{Tree, node, Moves, move}
+use Rattle.board.specs.Masks.{bit, member}
 use Rattle.board.proofs.Bits.{bit_word}
 use Rattle.othello_rules.specs.Rules.{flipped, legal, any}
 use Rattle.othello_rules.specs.Diagrams.{opponent, discs, own, other, empty, empties, moved, own_after, other_after, placeable, placed, passed, placements, turn}

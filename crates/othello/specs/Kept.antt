@@ -1,6 +1,6 @@
 -- What every position keeps: it holds after a placement and after a pass.
 use Rattle.std.specs.Prelude.{◌≡◌, ℕ, ◌^◌, ◌<◌, ◌≤◌, Bool, true, false, cond, Some, None, bit_and, refl}
-use Rattle.std.proofs.Common.{sym, ap, ◌∙◌, subst, arith}
+use Rattle.std.proofs.Common.{arith}
 use Rattle.othello_rules.specs.Diagrams.{empties, placeable, placed, passed}
 use Rattle.othello_rules.specs.declared.diagram.Diagram.{Diagram}
 use Rattle.othello.specs.Grown.{fewer}

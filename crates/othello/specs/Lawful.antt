@@ -1,20 +1,16 @@
 -- The laws of a game, of endings: texts and codes tell moves and positions apart, and a reading gives a position.
-use Rattle.std.specs.Prelude.{◌≡◌, ℕ, zero, suc, ◌+◌, ◌*◌, ◌/◌, ◌%◌, ◌^◌, ◌<◌, ◌≤◌, Bool, true, false, cond, List, [], ◌∷◌, map, length, get_or, Ok, Err, Result, nat_lt, slice_index, slice_index_or, refl}
-use Rattle.std.proofs.Common.{sym, ap, ap₂, ◌∙◌, subst, arith}
-use Rattle.std.specs.List.{range_with_len}
-use Rattle.std.proofs.ByRecursion.{All-get_or}
+use Rattle.std.specs.Prelude.{◌≡◌, ℕ, ◌+◌, ◌/◌, ◌%◌, ◌<◌, ◌≤◌, Bool, true, false, cond, List, [], map, length, get_or, Ok, Err, Result, nat_lt, slice_index, slice_index_or, refl}
+use Rattle.std.proofs.Common.{sym, ap, ◌∙◌, subst, arith}
 use Rattle.std.proofs.lemmas.List.{length-map, get_or-map}
 use Rattle.std.proofs.lemmas.Bool.{ltb-false}
 use Rattle.form.specs.Forms.{reading as said}
 use Rattle.form.proofs.Departing.{says_reading}
-use Rattle.game.specs.Tree.{Tree, Reading, position, refused, state, rank, code, next, words, ended}
+use Rattle.game.specs.Tree.{Tree, position, refused, state, code, words}
 use Rattle.game.specs.Rules.{Alike, Rules}
 use Rattle.game.specs.declared.decline.Decline.{Decline}
 use Rattle.game.specs.declared.decline.Decline.TheVariants.{Aim, Form, Empties}
-use Rattle.game.specs.declared.state.State.TheVariants.{Defender}
 use Rattle.board.specs.Masks.{bit, size}
 use Rattle.othello_rules.specs.Diagrams.{empties, placeable, placements, turn}
-use Rattle.othello_rules.specs.Texts.{Stands}
 use Rattle.othello_rules.specs.Reading.{form}
 use Rattle.othello_rules.specs.declared.diagram.Diagram.{Diagram}
 use Rattle.othello_rules.specs.declared.side.Side.{Side}
@@ -22,10 +18,9 @@ use Rattle.othello_rules.specs.declared.side.Side.TheVariants.{X, O}
 use Rattle.othello_rules.specs.declared.turn.Turn.{Turn}
 use Rattle.othello_rules.specs.declared.turn.Turn.TheVariants.{Place, Pass, Ended}
 use Rattle.othello_rules.proofs.Meaning.{stands}
-use Rattle.othello.specs.Endings.{square_text, side_number, code_of, by_turn, CodesPin, tree}
+use Rattle.othello.specs.Endings.{square_text, side_number, code_of, CodesPin, tree}
 use Rattle.othello.specs.Positions.{IsEnding, full, start}
 use Rattle.othello.specs.Setting.{reading_of, reading}
-use Rattle.othello.specs.Grown.{all_placeable}
 use Rattle.othello.specs.Kept.{Keeps}
 use Rattle.othello.specs.Listed.{code_is, words_place, words_turn}
 use Rattle.othello.specs.Rising.{Rising, rising, one_place}

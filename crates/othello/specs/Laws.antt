@@ -1,24 +1,22 @@
 -- Endings keep what every game keeps.
-use Rattle.std.specs.Prelude.{◌≡◌, ℕ, zero, suc, ◌+◌, ◌*◌, ◌^◌, ◌<◌, ◌≤◌, Bool, true, false, cond, List, [], ◌∷◌, map, length, ◌≢◌}
+use Rattle.std.specs.Prelude.{◌≡◌, ℕ, ◌^◌, ◌<◌, ◌≤◌, Bool, true, false, cond, List, length, ◌≢◌}
 use Rattle.std.proofs.Math.Path.{refl, ap}
-use Rattle.std.proofs.Common.{sym, ap₂, ◌∙◌, subst, arith}
+use Rattle.std.proofs.Common.{sym, ◌∙◌, subst, arith}
 use Rattle.std.specs.List.{AllByRecursion}
 use Rattle.std.proofs.ByRecursion.{All-map, All-weaker}
 use Rattle.std.proofs.lemmas.Bool.{false≢true}
-use Rattle.game.specs.Tree.{Tree, state, rank, code, next, words, ended, nowhere}
+use Rattle.game.specs.Tree.{Tree, state, rank, code, next, words, ended}
 use Rattle.game.specs.Rules.{Alike}
 use Rattle.game.specs.declared.state.State.{State}
 use Rattle.game.specs.declared.state.State.TheVariants.{Won, NotWon, Attacker, Defender}
 use Rattle.board.specs.Masks.{size}
-use Rattle.othello_rules.specs.Rules.{any}
 use Rattle.othello_rules.specs.Diagrams.{empty, empties, placeable, placed, passed, placements, turn}
-use Rattle.othello_rules.specs.Texts.{Sound}
 use Rattle.othello_rules.specs.declared.diagram.Diagram.{Diagram}
 use Rattle.othello_rules.specs.declared.side.Side.{Side}
 use Rattle.othello_rules.specs.declared.side.Side.TheVariants.{X, O}
 use Rattle.othello_rules.specs.declared.turn.Turn.{Turn}
 use Rattle.othello_rules.specs.declared.turn.Turn.TheVariants.{Place, Pass, Ended}
-use Rattle.othello.specs.Endings.{Move, reached, to_move, state_by, due, rank_of, side_number, code_of, moves_of, tree}
+use Rattle.othello.specs.Endings.{Move, reached, to_move, state_by, due, rank_of, side_number, moves_of, tree}
 use Rattle.othello.specs.Positions.{IsEnding}
 use Rattle.othello.specs.Fewer.{size_le}
 use Rattle.othello.specs.Turns.{some_listed}

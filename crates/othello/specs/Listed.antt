@@ -5,13 +5,12 @@ use Rattle.std.proofs.Math.Path.{ap}
 use Rattle.std.specs.List.{slice_get}
 use Rattle.std.proofs.lemmas.List.{length-map, get_or-map}
 use Rattle.std.proofs.lemmas.Option.{slice_get-get_or, slice_get_past}
-use Rattle.game.specs.Tree.{Tree, nowhere, state, rank, code, moves, next, words, successors, texts}
-use Rattle.game.specs.declared.state.State.{State}
-use Rattle.othello_rules.specs.Diagrams.{placements, placed, passed, turn}
+use Rattle.game.specs.Tree.{Tree, nowhere, state, rank, code, next, words, successors, texts}
+use Rattle.othello_rules.specs.Diagrams.{placements, placed, turn}
 use Rattle.othello_rules.specs.declared.diagram.Diagram.{Diagram}
 use Rattle.othello_rules.specs.declared.side.Side.{Side}
 use Rattle.othello_rules.specs.declared.turn.Turn.{Turn}
-use Rattle.othello_rules.specs.declared.turn.Turn.TheVariants.{Place, Pass, Ended}
+use Rattle.othello_rules.specs.declared.turn.Turn.TheVariants.{Place}
 use Rattle.othello.specs.Endings.{Move, square_text, placing, by_turn, moves_of, state_by, state_of, rank_of, code_of, branches, tree}
 use Rattle.othello.specs.Grown.{grows}
 

@@ -1,5 +1,5 @@
 -- What is left to turn on a ray, part of which has been walked: `taken` is the mask of the run so far.
-use Rattle.std.proofs.Common.{◌≡◌, ℕ, zero, suc, ◌+◌, ◌-◌, ◌^◌, ◌<◌, ◌≤◌, Bool, true, false, cond, List, [], ◌∷◌, sym, refl, ap, ◌∙◌, ap₂, arith}
+use Rattle.std.proofs.Common.{◌≡◌, ℕ, ◌+◌, ◌^◌, ◌<◌, ◌≤◌, true, false, cond, List, [], ◌∷◌, sym, refl, ap, ◌∙◌, arith}
 use lib.Bits.{bit_and, bit_or, or_zero_r}
 use Rattle.std.proofs.lemmas.Nat.{one_shl}
 use Rattle.board.specs.Masks.{bit, mask}

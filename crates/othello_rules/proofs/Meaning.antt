@@ -1,5 +1,5 @@
 -- The texts that are read are the texts of diagrams, and each is read as its diagram.
-use Rattle.std.proofs.Common.{◌≡◌, ℕ, zero, suc, ◌+◌, ◌-◌, ◌^◌, ◌<◌, ◌≤◌, Bool, true, false, cond, ◌&&◌, ◌||◌, eqb, ltb, ◌⊎◌, List, [], ◌∷◌, ◌++◌, map, length, replicate, Some, None, Option, sym, refl, ap, ◌∙◌, subst, ap₂, inl, inr, arith}
+use Rattle.std.proofs.Common.{◌≡◌, ℕ, zero, suc, ◌+◌, ◌^◌, ◌<◌, ◌≤◌, Bool, true, false, cond, ◌&&◌, ◌||◌, eqb, ltb, List, [], ◌∷◌, ◌++◌, map, replicate, Some, None, Option, sym, refl, ap, ◌∙◌, subst, ap₂, inl, inr, arith}
 use mathlib.Core.Bool.{or-false}
 use lib.Bits.{bit_and, bit_or, or_lt, and_le_l}
 use lib.Pow.{pow-lt}
@@ -9,11 +9,11 @@ use Rattle.std.proofs.lemmas.Bool.{eqb-true, eq-eqb, ne_eqb, cases_eq, and_left,
 use Rattle.std.proofs.lemmas.List.{append_assoc}
 use Rattle.board.specs.Masks.{bit}
 use Rattle.board.proofs.Bits.{bit-and, bit-or, bit-single, bit-none, bit_ext}
-use Rattle.form.specs.Forms.{Form, given, led, Says, TextsOf}
+use Rattle.form.specs.Forms.{given, led, Says, TextsOf}
 use Rattle.form.proofs.Departing.{never}
 use Rattle.othello_rules.specs.Letters.{'X', 'O', dot, blank}
-use Rattle.othello_rules.specs.Texts.{letter, mark, squares, written, Sound, Stands, Texts}
-use Rattle.othello_rules.specs.Reading.{reader, past, step, said, diagram, form}
+use Rattle.othello_rules.specs.Texts.{letter, mark, squares, Stands, Texts}
+use Rattle.othello_rules.specs.Reading.{reader, past, said, diagram, form}
 use Rattle.othello_rules.specs.declared.side.Side.{Side}
 use Rattle.othello_rules.specs.declared.side.Side.TheVariants.{X, O}
 use Rattle.othello_rules.specs.declared.diagram.Diagram.{Diagram}

@@ -1,5 +1,5 @@
 -- Diagrams: the discs of the two sides and the side to move, and what a placement and a pass make of one.
-use Rattle.std.specs.Prelude.{ℕ, Bool, true, false, cond, not, ◌&&◌, ◌||◌, List, [], Some, None, filter, Option, ◌==◌}
+use Rattle.std.specs.Prelude.{ℕ, Bool, cond, not, ◌&&◌, ◌||◌, List, [], Some, None, filter, Option, ◌==◌}
 use Rattle.std.specs.List.{range_with_len}
 use Rattle.board.specs.Masks.{bit, member, word, size}
 use Rattle.othello_rules.specs.Rules.{Squares, flipped, legal, any}

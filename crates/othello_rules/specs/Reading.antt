@@ -1,5 +1,5 @@
 -- A diagram's text, read byte by byte.
-use Rattle.std.specs.Prelude.{ℕ, ◌+◌, ◌^◌, ◌<◌, Bool, true, false, cond, Some, None, Option, ◌==◌, bit_or, nat_lt}
+use Rattle.std.specs.Prelude.{ℕ, ◌+◌, ◌^◌, ◌<◌, cond, Some, None, Option, ◌==◌, bit_or, nat_lt}
 use Rattle.form.specs.Forms.{Form}
 use Rattle.othello_rules.specs.Letters.{'X', 'O', dot, blank}
 use Rattle.othello_rules.specs.declared.side.Side.{Side}

@@ -1,8 +1,6 @@
 -- The rules of Othello on a board: which squares hold discs of the side to move (own), and which hostile ones (other).
-use Rattle.std.specs.Prelude.{ℕ, zero, suc, ◌+◌, Bool, true, false, cond, not, ◌&&◌, ◌||◌, List, [], ◌∷◌, ◌++◌}
+use Rattle.std.specs.Prelude.{ℕ, Bool, true, false, cond, not, ◌&&◌, ◌||◌, List, [], ◌∷◌, ◌++◌}
 use Rattle.board.specs.Squares.{ray}
-use Rattle.board.specs.Masks.{member}
-use Rattle.board.specs.declared.direction.Direction.{Direction}
 use Rattle.board.specs.declared.direction.Direction.TheVariants.{East, West, North, South, NorthEast, NorthWest, SouthEast, SouthWest}
 
 -- a set of squares

@@ -1,14 +1,12 @@
 -- The states of the reader: those on the board stay there, and each is live.
-use Rattle.std.specs.Prelude.{◌≡◌, ℕ, zero, suc, ◌+◌, ◌-◌, ◌^◌, ◌<◌, ◌≤◌, Bool, true, false, cond, ltb, List, [], ◌∷◌, ◌++◌, Some, None, Option, ◌==◌, nat_lt, refl}
+use Rattle.std.specs.Prelude.{◌≡◌, ℕ, zero, suc, ◌+◌, ◌-◌, ◌<◌, Bool, true, false, cond, ltb, [], ◌∷◌, Some, Option, ◌==◌, nat_lt, refl}
 use Rattle.std.proofs.Common.{sym, ap, ◌∙◌, subst, arith}
-use Rattle.std.specs.Int.Bits.{bit_or}
 use Rattle.std.proofs.lemmas.Bool.Decides.{nat_tests}
-use Rattle.form.specs.Forms.{Form, given, led, Live, Lively}
+use Rattle.form.specs.Forms.{led, Live, Lively}
 use Rattle.form.proofs.Departing.{never}
 use Rattle.othello_rules.specs.Letters.{'X', 'O', dot, blank}
-use Rattle.othello_rules.specs.Reading.{reader, past, step, said, diagram, form, OnBoard, IsFit}
-use Rattle.othello_rules.specs.declared.side.Side.{Side}
-use Rattle.othello_rules.specs.declared.side.Side.TheVariants.{X, O}
+use Rattle.othello_rules.specs.Reading.{reader, past, step, diagram, form, OnBoard, IsFit}
+use Rattle.othello_rules.specs.declared.side.Side.TheVariants.{X}
 use Rattle.othello_rules.specs.declared.reader.Reader.{Reader}
 use Rattle.othello_rules.specs.declared.reader.Awaits.{Awaits}
 use Rattle.othello_rules.specs.declared.reader.Awaits.TheVariants.{Square, Gap, Mover, Blanks}

@@ -1,5 +1,5 @@
 -- Which text stands for which diagram.
-use Rattle.std.specs.Prelude.{◌≡◌, ℕ, ◌^◌, ◌<◌, Bool, cond, List, [], ◌∷◌, ◌++◌, map, replicate, bit_and}
+use Rattle.std.specs.Prelude.{◌≡◌, ℕ, ◌^◌, ◌<◌, cond, List, [], ◌∷◌, ◌++◌, map, replicate, bit_and}
 use Rattle.std.specs.List.{range_with_len}
 use Rattle.board.specs.Masks.{bit}
 use Rattle.othello_rules.specs.Letters.{'X', 'O', dot, blank}

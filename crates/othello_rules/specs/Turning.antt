@@ -1,5 +1,5 @@
 -- The rule of turning, by direction and distance.
-use Rattle.std.specs.Prelude.{◌≡◌, ℕ, ◌+◌, ◌<◌, ◌≤◌, Bool, true, false, List, [], map, Decides}
+use Rattle.std.specs.Prelude.{◌≡◌, ℕ, ◌+◌, ◌<◌, ◌≤◌, true, false, [], map, Decides}
 use Rattle.std.specs.List.{range_with_len}
 use Rattle.board.specs.Squares.{reach, away, ray}
 use Rattle.board.specs.declared.direction.Direction.{Direction}

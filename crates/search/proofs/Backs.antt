@@ -1,5 +1,5 @@
 -- One move more is taken back.
-use Rattle.std.proofs.Common.{◌≡◌, ℕ, zero, suc, List, [], ◌∷◌, length, Ok, Err, Result, sym, refl, ap, ◌∙◌}
+use Rattle.std.proofs.Common.{◌≡◌, ℕ, zero, suc, List, [], ◌∷◌, length, Ok, Err, Result, sym, refl}
 use Rattle.game.specs.declared.decline.Decline.{Decline}
 use Rattle.game.specs.Tree.{Tree}
 use Rattle.search.specs.Backs.{back}

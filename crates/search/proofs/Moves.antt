@@ -1,5 +1,5 @@
 -- What a play, a take-back and a push leave, where they cannot be refused.
-use Rattle.std.proofs.Common.{◌≡◌, ℕ, ◌<◌, ◌≤◌, List, [], ◌∷◌, length, get_or, Ok, Err, Result, sym, ◌∙◌, arith, MatchResult}
+use Rattle.std.proofs.Common.{◌≡◌, ℕ, ◌<◌, ◌≤◌, List, [], ◌∷◌, length, get_or, Ok, Err, Result, arith, MatchResult}
 use Rattle.game.specs.declared.decline.Decline.{Decline}
 use Rattle.game.specs.declared.decline.Decline.TheVariants.{MoveNumber, TakeBack}
 use Rattle.game.specs.Tree.{Tree, nowhere, next}

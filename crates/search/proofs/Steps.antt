@@ -14,7 +14,7 @@ use Rattle.table.specs.Pairs.{Held}
 use Rattle.search.specs.declared.frame.Frame.{Frame as Kept}
 use Rattle.search.specs.declared.frame.Step.{Step}
 use Rattle.search.specs.declared.frame.Step.TheVariants.{Enter, Work, Back}
-use Rattle.search_laws.specs.Run.{Storing, mover, Frame, reached_at, thresholds_at, listed, Outcome, stopped, gave, Course, over, on, enter, hand, turn, Runs, done, going, start}
+use Rattle.search_laws.specs.Run.{Storing, mover, Frame, reached_at, thresholds_at, listed, Outcome, stopped, gave, Course, on, enter, hand, turn, Runs, done, going, start}
 use Rattle.search.specs.Machine.{part, framed, frames, course, free, Fits, Waits, Under, Stands, work, Goes}
 use Rattle.search_laws.proofs.Taking.{chosen_in, thresholds-low}
 use Rattle.search.specs.Backs.{back}

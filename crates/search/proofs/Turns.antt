@@ -1,5 +1,5 @@
 -- The turns of the plain search, as facts of its model.
-use Rattle.std.proofs.Common.{◌≡◌, ℕ, zero, suc, ◌+◌, ◌<◌, ◌≤◌, Bool, true, false, cond, not, List, [], ◌∷◌, length, get_or, Ok, Err, Result as Answered, sym, refl, ap, ◌∙◌, subst, arith}
+use Rattle.std.proofs.Common.{◌≡◌, ℕ, zero, suc, ◌+◌, ◌<◌, ◌≤◌, Bool, true, false, cond, not, List, [], ◌∷◌, length, get_or, Ok, Err, Result as Answered, sym, refl, ap, ◌∙◌, arith}
 use mathlib.Core.Bool.{beq}
 use Rattle.game.specs.declared.decline.Decline.{Decline}
 use Rattle.game.specs.Tree.{Tree, Moves, node, none, move, state, rank, moves, successors, next, nowhere, minimax, some_won, all_won}

@@ -4,10 +4,10 @@ use Rattle.game.specs.Tree.{Tree, code, minimax}
 use Rattle.table.specs.declared.pair.Pair.{Pair}
 use Rattle.table.specs.Pairs.{Held}
 use Rattle.search_laws.specs.declared.answer.Verdict.{Verdict}
-use Rattle.search_laws.specs.declared.answer.Verdict.TheVariants.{Won as Is-won, NotWon as Is-not-won, Spent as Is-spent}
+use Rattle.search_laws.specs.declared.answer.Verdict.TheVariants.{Won as IsWon, NotWon as IsNotWon, Spent as IsSpent}
 use Rattle.search_laws.specs.declared.answer.Answer.{Answer}
 use Rattle.search_laws.specs.Run.{Storing, Frame, Outcome, stopped, gave, Course, over, on, reached, turn, step, Runs, done, going, start}
-use Rattle.search_laws.specs.Trial.{pair_of, decided, known, need, half, share, Trial, at_once, by_the_run, by_the_search, spent}
+use Rattle.search_laws.specs.Trial.{pair_of, known, need, half, share, Trial, at_once, by_the_run, by_the_search, spent}
 use Rattle.search_laws.specs.Claims.{Keeping, Ranging, RunsLast, VerdictsLast, RunsAgree, TrialsAgree, RunsEnd, with_below, FramesCompose}
 use Rattle.search_laws.proofs.Trials.{trials_are_right_lem, never-spent, never-known, never-value}
 
@@ -113,7 +113,7 @@ module _ (stored : Storing) where
       let k : stopped held' ≡ stopped held'' = runs_agree _ _ _ r r' in (refl, cc)
 
   -- a trial that was not spent is not spent with a larger budget
-  spent_run : (held : Held) (t : Tree) (b : ℕ) (a : Answer) (h : Held) → Trial stored held t b a h → a.verdict ≡ Is-spent →
+  spent_run : (held : Held) (t : Tree) (b : ℕ) (a : Answer) (h : Held) → Trial stored held t b a h → a.verdict ≡ IsSpent →
       (known held t ≡ None) × (share b < need t) × Runs stored (start held (half b) t) (stopped h)
   spent_run held t b a h (at_once e) z = absurd (never-known held t (e ∙ ap Some z))
   spent_run held t b a h (by_the_run {p = p} e r d) z = absurd (never-spent p (d ∙ ap Some z))
@@ -124,7 +124,7 @@ module _ (stored : Storing) where
   half_more b b' h = omega arith
 
   still_unspent : (held : Held) (t : Tree) (b b' : ℕ) (a a' : Answer) (h h' : Held) → b ≤ b' →
-      Trial stored held t b a h → Trial stored held t b' a' h' → (a.verdict ≡ Is-spent → ⊥) → a'.verdict ≡ Is-spent → ⊥
+      Trial stored held t b a h → Trial stored held t b' a' h' → (a.verdict ≡ IsSpent → ⊥) → a'.verdict ≡ IsSpent → ⊥
   still_unspent held t b b' a a' h h' l (at_once e) y n z =
       let k = (spent_run held t b' a' h' y z).0 in let x : ◌≡◌ {A = ℕ} 0 1 = cc in omega arith
   still_unspent held t b b' a a' h h' l (by_the_run {left = left} {p} e r d) y n z =
@@ -137,17 +137,17 @@ module _ (stored : Storing) where
   still_unspent held t b b' a a' h h' l (spent e r d) y n z = n refl
 
 -- two verdicts that are right
-both_right : (v w : Verdict) (t : Tree) → (v ≡ Is-won → minimax t ≡ true) → (v ≡ Is-not-won → minimax t ≡ false) →
-    (w ≡ Is-won → minimax t ≡ true) → (w ≡ Is-not-won → minimax t ≡ false) → (v ≡ Is-spent → ⊥) → (w ≡ Is-spent → ⊥) → w ≡ v
-both_right Is-won Is-won t a b c d x y = refl
-both_right Is-won Is-not-won t a b c d x y =
+both_right : (v w : Verdict) (t : Tree) → (v ≡ IsWon → minimax t ≡ true) → (v ≡ IsNotWon → minimax t ≡ false) →
+    (w ≡ IsWon → minimax t ≡ true) → (w ≡ IsNotWon → minimax t ≡ false) → (v ≡ IsSpent → ⊥) → (w ≡ IsSpent → ⊥) → w ≡ v
+both_right IsWon IsWon t a b c d x y = refl
+both_right IsWon IsNotWon t a b c d x y =
     let e = a refl in let f = d refl in let z : ◌≡◌ {A = ℕ} 0 1 = cc in absurd (omega arith)
-both_right Is-won Is-spent t a b c d x y = absurd (y refl)
-both_right Is-not-won Is-won t a b c d x y =
+both_right IsWon IsSpent t a b c d x y = absurd (y refl)
+both_right IsNotWon IsWon t a b c d x y =
     let e = b refl in let f = c refl in let z : ◌≡◌ {A = ℕ} 0 1 = cc in absurd (omega arith)
-both_right Is-not-won Is-not-won t a b c d x y = refl
-both_right Is-not-won Is-spent t a b c d x y = absurd (y refl)
-both_right Is-spent w t a b c d x y = absurd (x refl)
+both_right IsNotWon IsNotWon t a b c d x y = refl
+both_right IsNotWon IsSpent t a b c d x y = absurd (y refl)
+both_right IsSpent w t a b c d x y = absurd (x refl)
 
 pub verdicts_last_lem : (positions : Tree → Type 0) → Ranging positions → (stored : Storing) → Keeping stored → VerdictsLast positions stored
 verdicts_last_lem positions ranging stored keeping held t b b' a a' h h' s i l x y n =

@@ -7,7 +7,7 @@ use Rattle.table.specs.Numbers.{top}
 use Rattle.table.specs.Formed.{Form, is_won, is_not_won, is_open, form}
 use Rattle.table.specs.Pairs.{Held, won, not_won, same_pair}
 use Rattle.search_laws.specs.declared.answer.Verdict.{Verdict}
-use Rattle.search_laws.specs.declared.answer.Verdict.TheVariants.{Won as Is-won, NotWon as Is-not-won}
+use Rattle.search_laws.specs.declared.answer.Verdict.TheVariants.{Won as IsWon, NotWon as IsNotWon}
 use Rattle.search_laws.specs.declared.answer.Answer.{Answer}
 use Rattle.search_laws.specs.Run.{Storing, Frame, pair, reached, chosen, Outcome, stopped, gave, Course, over, on, turn, Runs, done, going, start}
 use Rattle.search_laws.specs.Trial.{decided, known, need, half, share, Trial, at_once, by_the_run, by_the_search, spent}
@@ -63,8 +63,8 @@ module _ (stored : Storing) where
   runs_decide_lem held left t held' left' p r = holds_run _ _ r (holds_start held left t)
 
   decided_verdict : (p : Pair) → (p ≡ won) ⊎ (p ≡ not_won) → (v : Verdict) × (decided p ≡ Some v)
-  decided_verdict p (inl e) = (Is-won, ap decided e)
-  decided_verdict p (inr e) = (Is-not-won, ap decided e)
+  decided_verdict p (inl e) = (IsWon, ap decided e)
+  decided_verdict p (inr e) = (IsNotWon, ap decided e)
 
   pub trials_end_lem : TrialsEnd stored
   trials_end_lem held t b = go (known held t) refl

@@ -1,18 +1,17 @@
 -- Soundness: what a sound table lists is right, a frame's pair is right if its records are, and so on through a run.
-use Rattle.std.proofs.Common.{◌≡◌, ℕ, zero, suc, ◌<◌, ◌≤◌, Bool, true, false, ◌⊎◌, List, [], ◌∷◌, map, length, get_or, Some, None, Option, sym, refl, ap, ◌∙◌, subst, inl, inr, arith}
+use Rattle.std.proofs.Common.{◌≡◌, ℕ, zero, suc, ◌<◌, Bool, true, false, ◌⊎◌, List, [], ◌∷◌, map, length, get_or, Some, None, Option, sym, refl, ap, ◌∙◌, subst, inl, inr, arith}
 use mathlib.Core.List.{List-discrete}
 use native.Mathlib.Decide.{ℕ_discrete}
 use Rattle.std.specs.List.{AllByRecursion}
 use Rattle.std.proofs.lemmas.List.{get_or-map, length-map}
-use Rattle.game.specs.declared.state.State.{State}
 use Rattle.game.specs.declared.state.State.TheVariants.{Won, NotWon, Attacker, Defender}
 use Rattle.game.specs.Tree.{Tree, node, nowhere, state, code, next, minimax, some_won, all_won}
 use Rattle.table.specs.declared.pair.Pair.{Pair}
 use Rattle.table.specs.declared.side.Side.{Side}
 use Rattle.table.specs.declared.side.Side.TheVariants.{Attacker as Attacks, Defender as Defends}
-use Rattle.table.specs.Numbers.{top, least, first}
-use Rattle.table.specs.Pairs.{Code, Held, won, not_won, fresh, own, against}
-use Rattle.table.specs.Frames.{owns, againsts, chosen_at, pair_at}
+use Rattle.table.specs.Numbers.{top, least}
+use Rattle.table.specs.Pairs.{Code, Held, won, own, against}
+use Rattle.table.specs.Frames.{owns, againsts, pair_at}
 use Rattle.search_laws.specs.declared.thresholds.Thresholds.{Thresholds}
 use Rattle.search_laws.specs.Run.{Storing, mover, Frame, pair, reached, chosen, taken, thresholds_below, or_fresh, listed, Outcome, stopped, gave, Course, over, on, enter, hand, turn, Runs, done, going}
 use Rattle.search_laws.specs.Claims.{Keeping, Ranging, Agrees, Sound, Active, RunsAreRight}

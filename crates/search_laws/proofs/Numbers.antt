@@ -1,16 +1,15 @@
 -- Leasts and capped sums of the successors' numbers, and what they say of the successors' values.
-use Rattle.std.proofs.Common.{◌≡◌, ℕ, zero, suc, ◌+◌, ◌<◌, ◌≤◌, min, Bool, true, false, cond, ◌&&◌, ◌||◌, eqb, ◌⊎◌, List, [], ◌∷◌, map, length, get_or, set, sym, refl, ap, ◌∙◌, inl, inr, arith}
+use Rattle.std.proofs.Common.{◌≡◌, ℕ, zero, suc, ◌<◌, min, Bool, true, false, cond, ◌&&◌, ◌||◌, eqb, ◌⊎◌, List, [], ◌∷◌, length, get_or, set, refl, ap, ◌∙◌, inl, inr, arith}
 use native.Mathlib.Decide.{ℕ_discrete}
 use Rattle.std.proofs.lemmas.Bool.{eqb-true, eqb-false}
 use Rattle.game.specs.declared.state.State.TheVariants.{Won, NotWon}
 use Rattle.game.specs.Tree.{Tree, Moves, none, move, nowhere, state, successors, minimax, some_won, all_won}
 use Rattle.table.specs.declared.pair.Pair.{Pair}
-use Rattle.table.specs.declared.side.Side.{Side}
 use Rattle.table.specs.declared.side.Side.TheVariants.{Attacker, Defender}
 use Rattle.table.specs.Numbers.{top, capped, least, first}
 use Rattle.table.specs.Formed.{Form, is_won, is_not_won, is_open, form, capped_low, capped_left, capped_right, capped_cons}
-use Rattle.table.specs.Pairs.{won, not_won, same_pair, own, against}
-use Rattle.table.specs.Frames.{owns, againsts, chosen_at}
+use Rattle.table.specs.Pairs.{won, not_won, same_pair}
+use Rattle.table.specs.Frames.{owns, againsts}
 use Rattle.search_laws.specs.Claims.{Agrees}
 
 -- a pair with a 0 is decided

@@ -5,7 +5,7 @@ use Rattle.game.specs.Tree.{Tree, node, state, minimax, some_won, all_won}
 use Rattle.table.specs.declared.pair.Pair.{Pair}
 use Rattle.table.specs.Pairs.{Held, won, not_won, same_pair}
 use Rattle.search_laws.specs.declared.answer.Verdict.{Verdict}
-use Rattle.search_laws.specs.declared.answer.Verdict.TheVariants.{Won as Is-won, NotWon as Is-not-won, Spent as Is-spent}
+use Rattle.search_laws.specs.declared.answer.Verdict.TheVariants.{Won as IsWon, NotWon as IsNotWon, Spent as IsSpent}
 use Rattle.search_laws.specs.Run.{Storing}
 use Rattle.search_laws.specs.Trial.{verdict_of, pair_of, same, decided, decided_in, known, half, at_once, by_the_run, by_the_search, spent}
 use Rattle.search_laws.specs.Claims.{Keeping, Ranging, Agrees, Sound, Active, TrialsAreRight, SpentIsMeant}
@@ -13,9 +13,9 @@ use Rattle.search_laws.proofs.Frames.{proof-of, runs_are_right, sound_stored}
 
 -- what a verdict says of a position
 abbrev pub Says : Verdict → Tree → Type 0
-Says Is-won t = minimax t ≡ true
-Says Is-not-won t = minimax t ≡ false
-Says Is-spent t = ⊥
+Says IsWon t = minimax t ≡ true
+Says IsNotWon t = minimax t ≡ false
+Says IsSpent t = ⊥
 
 same_numbers : (p q : Pair) → same p q ≡ true → (p.proof ≡ q.proof) × (p.disproof ≡ q.disproof)
 same_numbers p q = go (eqb p.proof q.proof) (eqb p.disproof q.disproof) refl refl
@@ -30,9 +30,9 @@ same_numbers p q = go (eqb p.proof q.proof) (eqb p.disproof q.disproof) refl ref
 decided_says : (t : Tree) (p : Pair) (v : Verdict) → Agrees t p → decided p ≡ Some v → Says v t
 decided_says t p v a = go (same p won) (same p not_won) refl refl
   where
-    go : (x y : Bool) → same p won ≡ x → same p not_won ≡ y → cond x (Some Is-won) (cond y (Some Is-not-won) None) ≡ Some v → Says v t
-    go true y i j e = let z : Is-won ≡ v = cc in subst (λ (w : Verdict). Says w t) z (a.0 (same_pair p won (same_numbers p won i).0 (same_numbers p won i).1))
-    go false true i j e = let z : Is-not-won ≡ v = cc in subst (λ (w : Verdict). Says w t) z (a.1 (same_pair p not_won (same_numbers p not_won j).0 (same_numbers p not_won j).1))
+    go : (x y : Bool) → same p won ≡ x → same p not_won ≡ y → cond x (Some IsWon) (cond y (Some IsNotWon) None) ≡ Some v → Says v t
+    go true y i j e = let z : IsWon ≡ v = cc in subst (λ (w : Verdict). Says w t) z (a.0 (same_pair p won (same_numbers p won i).0 (same_numbers p won i).1))
+    go false true i j e = let z : IsNotWon ≡ v = cc in subst (λ (w : Verdict). Says w t) z (a.1 (same_pair p not_won (same_numbers p not_won j).0 (same_numbers p not_won j).1))
     go false false i j e = let z : ◌≡◌ {A = ℕ} 0 1 = cc in absurd (omega arith)
 
 in_says : (t : Tree) (v : Verdict) (o : Option Pair) → ((p : Pair) → o ≡ Some p → Agrees t p) → decided_in o ≡ Some v → Says v t
@@ -42,9 +42,9 @@ in_says t v None h e = let z : ◌≡◌ {A = ℕ} 0 1 = cc in absurd (omega ari
 known_says : (positions : Tree → Type 0) (held : Held) (t : Tree) (v : Verdict) → Sound positions held → positions t → known held t ≡ Some v → Says v t
 unfolding minimax some_won all_won
 known_says positions held (node Won r c m) v s i e =
-    let z : Is-won ≡ v = cc in subst (λ (w : Verdict). Says w (node Won r c m)) z refl
+    let z : IsWon ≡ v = cc in subst (λ (w : Verdict). Says w (node Won r c m)) z refl
 known_says positions held (node NotWon r c m) v s i e =
-    let z : Is-not-won ≡ v = cc in subst (λ (w : Verdict). Says w (node NotWon r c m)) z refl
+    let z : IsNotWon ≡ v = cc in subst (λ (w : Verdict). Says w (node NotWon r c m)) z refl
 known_says positions held (node Attacker r c m) v s i e = in_says (node Attacker r c m) v (held c) (s (node Attacker r c m) i) e
 known_says positions held (node Defender r c m) v s i e = in_says (node Defender r c m) v (held c) (s (node Defender r c m) i) e
 
@@ -55,10 +55,10 @@ unknown_active held (node NotWon r c m) e = let z : ◌≡◌ {A = ℕ} 0 1 = cc
 unknown_active held (node Attacker r c m) e = tt
 unknown_active held (node Defender r c m) e = tt
 
-pub says : (v : Verdict) (t : Tree) → Says v t → (v ≡ Is-won → minimax t ≡ true) × (v ≡ Is-not-won → minimax t ≡ false)
-says Is-won t h = (λ _. h, λ e. let z : ◌≡◌ {A = ℕ} 0 1 = cc in absurd (omega arith))
-says Is-not-won t h = (λ e. let z : ◌≡◌ {A = ℕ} 0 1 = cc in absurd (omega arith), λ _. h)
-says Is-spent t h = elim h [ ]
+pub says : (v : Verdict) (t : Tree) → Says v t → (v ≡ IsWon → minimax t ≡ true) × (v ≡ IsNotWon → minimax t ≡ false)
+says IsWon t h = (λ _. h, λ e. let z : ◌≡◌ {A = ℕ} 0 1 = cc in absurd (omega arith))
+says IsNotWon t h = (λ e. let z : ◌≡◌ {A = ℕ} 0 1 = cc in absurd (omega arith), λ _. h)
+says IsSpent t h = elim h [ ]
 
 value_says : (t : Tree) (b : Bool) → minimax t ≡ b → Says (verdict_of b) t
 value_says t true e = e
@@ -87,25 +87,25 @@ module _ (positions : Tree → Type 0) (ranging : Ranging positions) (stored : S
   )
 
 -- what is decided or known is never `spent`
-pub never-spent : (p : Pair) → decided p ≡ Some Is-spent → ⊥
+pub never-spent : (p : Pair) → decided p ≡ Some IsSpent → ⊥
 never-spent p = go (same p won) (same p not_won)
   where
-    go : (x y : Bool) → cond x (Some Is-won) (cond y (Some Is-not-won) None) ≡ Some Is-spent → ⊥
+    go : (x y : Bool) → cond x (Some IsWon) (cond y (Some IsNotWon) None) ≡ Some IsSpent → ⊥
     go true y e = let z : ◌≡◌ {A = ℕ} 0 1 = cc in omega arith
     go false true e = let z : ◌≡◌ {A = ℕ} 0 1 = cc in omega arith
     go false false e = let z : ◌≡◌ {A = ℕ} 0 1 = cc in omega arith
 
-pub never_in : (o : Option Pair) → decided_in o ≡ Some Is-spent → ⊥
+pub never_in : (o : Option Pair) → decided_in o ≡ Some IsSpent → ⊥
 never_in (Some p) e = never-spent p e
 never_in None e = let z : ◌≡◌ {A = ℕ} 0 1 = cc in omega arith
 
-pub never-known : (held : Held) (t : Tree) → known held t ≡ Some Is-spent → ⊥
+pub never-known : (held : Held) (t : Tree) → known held t ≡ Some IsSpent → ⊥
 never-known held (node Won r c m) e = let z : ◌≡◌ {A = ℕ} 0 1 = cc in omega arith
 never-known held (node NotWon r c m) e = let z : ◌≡◌ {A = ℕ} 0 1 = cc in omega arith
 never-known held (node Attacker r c m) e = never_in (held c) e
 never-known held (node Defender r c m) e = never_in (held c) e
 
-pub never-value : (b : Bool) → verdict_of b ≡ Is-spent → ⊥
+pub never-value : (b : Bool) → verdict_of b ≡ IsSpent → ⊥
 never-value true e = let z : ◌≡◌ {A = ℕ} 0 1 = cc in omega arith
 never-value false e = let z : ◌≡◌ {A = ℕ} 0 1 = cc in omega arith
 

@@ -1,5 +1,5 @@
 -- The trials by hand.
-use Rattle.std.proofs.Common.{[], refl, lit<, lit≤}
+use Rattle.std.proofs.Common.{refl, lit<, lit≤}
 use Rattle.game.specs.Tree.{minimax, some_won, all_won}
 use Rattle.table.specs.Numbers.{capped}
 use Rattle.table.specs.Pairs.{nothing, won, not_won}

@@ -6,7 +6,7 @@ use Rattle.game.specs.Tree.{Tree, minimax}
 use Rattle.table.specs.declared.pair.Pair.{Pair}
 use Rattle.table.specs.Pairs.{Held}
 use Rattle.search_laws.specs.declared.answer.Answer.{Answer}
-use Rattle.search_laws.specs.declared.answer.Verdict.TheVariants.{Won as Is-won, NotWon as Is-not-won, Spent as Is-spent}
+use Rattle.search_laws.specs.declared.answer.Verdict.TheVariants.{Won as IsWon, NotWon as IsNotWon, Spent as IsSpent}
 use Rattle.search_laws.specs.Run.{Storing}
 use Rattle.search_laws.specs.Trial.{Trial, need, share}
 use Rattle.search_laws.specs.Claims.{Sound}
@@ -24,9 +24,9 @@ Tried stored held t b rs (Err d) held' rs' = (trial_decline b (length rs) ≡ So
 -- spent is said only where the plain search needs more than its share.
 pub record Means (positions : Tree → Type 0) (held : Held) (t : Tree) (b : ℕ) (a : Answer) (held' : Held) : Type 0 where
   pub sound : Sound positions held → Sound positions held'
-  pub won : Sound positions held → a.verdict ≡ Is-won → minimax t ≡ true
-  pub not_won : Sound positions held → a.verdict ≡ Is-not-won → minimax t ≡ false
-  pub spent : a.verdict ≡ Is-spent → share b < need t
+  pub won : Sound positions held → a.verdict ≡ IsWon → minimax t ≡ true
+  pub not_won : Sound positions held → a.verdict ≡ IsNotWon → minimax t ≡ false
+  pub spent : a.verdict ≡ IsSpent → share b < need t
 
 abbrev pub Right : (Tree → Type 0) → Held → Tree → ℕ → Result Answer Decline → Held → Type 0
 Right positions held t b (Ok a) held' = Means positions held t b a held'

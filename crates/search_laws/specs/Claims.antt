@@ -1,12 +1,12 @@
 -- What holds of runs and trials.
-use Rattle.std.specs.Prelude.{◌≡◌, ℕ, ◌+◌, ◌<◌, ◌≤◌, true, false, not, T, ◌⊎◌, List, [], ◌∷◌, ◌++◌, Some, None, ◌≢◌}
+use Rattle.std.specs.Prelude.{◌≡◌, ℕ, ◌+◌, ◌<◌, ◌≤◌, true, false, not, T, ◌⊎◌, List, ◌++◌, Some, None, ◌≢◌}
 use Rattle.std.specs.List.{AllByRecursion}
 use Rattle.game.specs.declared.state.State.{State}
 use Rattle.game.specs.Tree.{Tree, state, code, next, ended, minimax}
 use Rattle.game.specs.Rules.{CodesTell}
 use Rattle.table.specs.declared.pair.Pair.{Pair}
 use Rattle.table.specs.Pairs.{Code, Held, won, not_won}
-use Rattle.search_laws.specs.declared.answer.Verdict.TheVariants.{Won as Is-won, NotWon as Is-not-won, Spent as Is-spent}
+use Rattle.search_laws.specs.declared.answer.Verdict.TheVariants.{Won as IsWon, NotWon as IsNotWon, Spent as IsSpent}
 use Rattle.search_laws.specs.declared.answer.Answer.{Answer}
 use Rattle.search_laws.specs.Run.{Storing, Frame, Outcome, stopped, gave, Course, over, on, hand, Runs, start}
 use Rattle.search_laws.specs.Trial.{Trial, need, share}
@@ -45,13 +45,13 @@ abbrev pub TrialsAreRight : (Tree → Type 0) → Storing → Type 0
 TrialsAreRight positions stored =
     (held : Held) (t : Tree) (b : ℕ) (a : Answer) (held' : Held) → Sound positions held → positions t →
     Trial stored held t b a held' →
-    Sound positions held' × (a.verdict ≡ Is-won → minimax t ≡ true) × (a.verdict ≡ Is-not-won → minimax t ≡ false)
+    Sound positions held' × (a.verdict ≡ IsWon → minimax t ≡ true) × (a.verdict ≡ IsNotWon → minimax t ≡ false)
 
 -- A trial says spent only where the plain search needs more than its share.
 abbrev pub SpentIsMeant : Storing → Type 0
 SpentIsMeant stored =
     (held : Held) (t : Tree) (b : ℕ) (a : Answer) (held' : Held) → Trial stored held t b a held' →
-    a.verdict ≡ Is-spent → share b < need t
+    a.verdict ≡ IsSpent → share b < need t
 
 -- A run that gives a pair gives the same pair, and leaves the same table, with more expansions.
 abbrev pub RunsLast : Storing → Type 0
@@ -63,7 +63,7 @@ RunsLast stored =
 abbrev pub VerdictsLast : (Tree → Type 0) → Storing → Type 0
 VerdictsLast positions stored =
     (held : Held) (t : Tree) (b b' : ℕ) (a a' : Answer) (h h' : Held) → Sound positions held → positions t → b ≤ b' →
-    Trial stored held t b a h → Trial stored held t b' a' h' → (a.verdict ≢ Is-spent) → a'.verdict ≡ a.verdict
+    Trial stored held t b a h → Trial stored held t b' a' h' → (a.verdict ≢ IsSpent) → a'.verdict ≡ a.verdict
 
 -- A run has one outcome, and a trial one answer and one table after it.
 abbrev pub RunsAgree : Storing → Type 0

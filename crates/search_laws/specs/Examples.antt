@@ -7,7 +7,7 @@ use Rattle.table.specs.declared.pair.Pair.{Pair}
 use Rattle.table.specs.Pairs.{Code, Held, nothing, won}
 use Rattle.table.specs.Slots.{newest}
 use Rattle.search_laws.specs.declared.answer.Verdict.{Verdict}
-use Rattle.search_laws.specs.declared.answer.Verdict.TheVariants.{Won as Is-won, NotWon as Is-not-won, Spent as Is-spent}
+use Rattle.search_laws.specs.declared.answer.Verdict.TheVariants.{Won as IsWon, NotWon as IsNotWon, Spent as IsSpent}
 use Rattle.search_laws.specs.declared.answer.Answer.{Answer}
 use Rattle.search_laws.specs.Run.{Storing}
 use Rattle.search_laws.specs.Trial.{Trial}
@@ -33,14 +33,14 @@ chain = node Attacker 2 (0 ∷ []) (move [] (node Defender 1 (1 ∷ []) (move []
 
 abbrev pub ChainTrials : Type 0
 ChainTrials =
-    Trial forget nothing chain 4 (answer Is-not-won 2 0) nothing
-    × Trial forget nothing chain 3 (answer Is-not-won 1 2) nothing
-    × Trial forget nothing chain 2 (answer Is-spent 1 1) nothing
+    Trial forget nothing chain 4 (answer IsNotWon 2 0) nothing
+    × Trial forget nothing chain 3 (answer IsNotWon 1 2) nothing
+    × Trial forget nothing chain 2 (answer IsSpent 1 1) nothing
 
 -- the second trial finds the decided pair of the first
 abbrev pub NewestTrials : Type 0
 NewestTrials =
-    (held : Held) × (Trial newest nothing chain 4 (answer Is-not-won 2 0) held) × (Trial newest held chain 4 (answer Is-not-won 0 0) held)
+    (held : Held) × (Trial newest nothing chain 4 (answer IsNotWon 2 0) held) × (Trial newest held chain 4 (answer IsNotWon 0 0) held)
 
 abbrev pub p13 : Tree
 p13 = node NotWon 0 (13 ∷ []) none
@@ -96,7 +96,7 @@ Tried t b a c o = (held : Held) × (Trial keep nothing t b a held) × (held c �
 
 abbrev pub WideTrials : Type 0
 WideTrials =
-    Tried p16 10 (answer Is-spent 5 5) (16 ∷ []) None
-    × Tried p16 11 (answer Is-won 5 6) (16 ∷ []) (Some won)
-    × Tried p16 19 (answer Is-won 9 6) (16 ∷ []) (Some won)
-    × Tried p16 20 (answer Is-won 10 0) (16 ∷ []) (Some won)
+    Tried p16 10 (answer IsSpent 5 5) (16 ∷ []) None
+    × Tried p16 11 (answer IsWon 5 6) (16 ∷ []) (Some won)
+    × Tried p16 19 (answer IsWon 9 6) (16 ∷ []) (Some won)
+    × Tried p16 20 (answer IsWon 10 0) (16 ∷ []) (Some won)

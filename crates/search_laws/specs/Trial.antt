@@ -6,14 +6,14 @@ use Rattle.game.specs.Tree.{Tree, Moves, node, none, move, state, code, minimax}
 use Rattle.table.specs.declared.pair.Pair.{Pair}
 use Rattle.table.specs.Pairs.{Held, won, not_won}
 use Rattle.search_laws.specs.declared.answer.Verdict.{Verdict}
-use Rattle.search_laws.specs.declared.answer.Verdict.TheVariants.{Won as Is-won, NotWon as Is-not-won, Spent as Is-spent}
+use Rattle.search_laws.specs.declared.answer.Verdict.TheVariants.{Won as IsWon, NotWon as IsNotWon, Spent as IsSpent}
 use Rattle.search_laws.specs.declared.answer.Answer.{Answer}
 use Rattle.search_laws.specs.Run.{Storing, stopped, gave, Runs, start}
 
 -- a value as a verdict and as a pair
 abbrev pub verdict_of : Bool → Verdict
-verdict_of true = Is-won
-verdict_of false = Is-not-won
+verdict_of true = IsWon
+verdict_of false = IsNotWon
 
 abbrev pub pair_of : Bool → Pair
 pair_of true = won
@@ -24,7 +24,7 @@ abbrev pub same : Pair → Pair → Bool
 same p q = p.proof == q.proof && p.disproof == q.disproof
 
 abbrev pub decided : Pair → Option Verdict
-decided p = cond (same p won) (Some Is-won) (cond (same p not_won) (Some Is-not-won) None)
+decided p = cond (same p won) (Some IsWon) (cond (same p not_won) (Some IsNotWon) None)
 
 abbrev pub decided_in : Option Pair → Option Verdict
 decided_in (Some p) = decided p
@@ -32,8 +32,8 @@ decided_in None = None
 
 -- the verdict that needs no search: of an ended position, or one whose decided pair the table holds
 abbrev pub known_as : State → Option Pair → Option Verdict
-known_as Won o = Some Is-won
-known_as NotWon o = Some Is-not-won
+known_as Won o = Some IsWon
+known_as NotWon o = Some IsNotWon
 known_as Attacker o = decided_in o
 known_as Defender o = decided_in o
 
@@ -76,4 +76,4 @@ pub data Trial (stored : Storing) (held : Held) (t : Tree) (b : ℕ) : Answer �
       (stored held' (code t) (pair_of (minimax t)))
   spent : {held' : Held} → known held t ≡ None →
       Runs stored (start held (half b) t) (stopped held') → share b < need t →
-      Trial stored held t b (record { verdict = Is-spent; expansions = half b; entries = share b }) held'
+      Trial stored held t b (record { verdict = IsSpent; expansions = half b; entries = share b }) held'

@@ -94,7 +94,7 @@ means positions stored held t i b buffer a held' buffer' fit right meant pt at s
       keys = s.keys ∙ ap keys read;
       duals = s.duals ∙ ap duals read;
       sound = λ h. (right held t b i n p held' h pt at s.solves).sound;
-      attacks-win = λ h. subst (AttacksWin t) read (right held t b i n p held' h pt at s.solves).attacks-win;
+      attacks_win = λ h. subst (AttacksWin t) read (right held t b i n p held' h pt at s.solves).attacks_win;
       keys_have_lines = λ h e. subst (KeysHaveLines t) read ((right held t b i n p held' h pt at s.solves).keys_have_lines (sym s.ending ∙ e));
       spent = λ e. meant held t b i n p held' s.solves (sym s.ending ∙ e);
     }

@@ -58,7 +58,7 @@ pub record Means (positions : Tree → Type 0) (held : Held) (t : Tree) (b : ℕ
   pub keys : a.keys ≡ keys (lines_in a.lines buffer')
   pub duals : a.duals ≡ duals (lines_in a.lines buffer')
   pub sound : Sound positions held → Sound positions held'
-  pub attacks-win : Sound positions held → AttacksWin t (lines_in a.lines buffer')
+  pub attacks_win : Sound positions held → AttacksWin t (lines_in a.lines buffer')
   pub keys_have_lines : Sound positions held → a.ending ≡ Done → KeysHaveLines t (lines_in a.lines buffer')
   pub spent : a.ending ≡ Spent → (u : Tree) × Reaches t u × (share b < need u)
 

@@ -3,7 +3,7 @@ use Rattle.std.proofs.Common.{◌≡◌, ℕ, suc, ◌+◌, ◌-◌, ◌<◌, �
 use Rattle.game.specs.declared.state.State.TheVariants.{Attacker, Defender}
 use Rattle.game.specs.Tree.{Tree, Moves, none, move, nowhere, state, moves, next, words}
 use Rattle.table.specs.Pairs.{Held}
-use Rattle.search_laws.specs.declared.answer.Verdict.TheVariants.{Spent as Is-spent}
+use Rattle.search_laws.specs.declared.answer.Verdict.TheVariants.{Spent as IsSpent}
 use Rattle.search_laws.specs.declared.answer.Answer.{Answer}
 use Rattle.search_laws.specs.Run.{Storing}
 use Rattle.search_laws.specs.Trial.{verdict_of}
@@ -19,7 +19,7 @@ one_value true false e = cc
 one_value false true e = cc
 one_value false false e = refl
 
-not-spent : (w : Bool) → verdict_of w ≡ Is-spent → ⊥
+not-spent : (w : Bool) → verdict_of w ≡ IsSpent → ⊥
 not-spent true e = clash (cc)
 not-spent false e = clash (cc)
 

@@ -7,7 +7,7 @@ use Rattle.game.specs.declared.state.State.TheVariants.{Won, NotWon, Attacker, D
 use Rattle.game.specs.Tree.{Tree, Moves, node, none, move, nowhere, state, moves, successors, next, words}
 use Rattle.table.specs.Pairs.{Held}
 use Rattle.search_laws.specs.declared.answer.Verdict.{Verdict}
-use Rattle.search_laws.specs.declared.answer.Verdict.TheVariants.{Won as Is-won, NotWon as Is-not-won, Spent as Is-spent}
+use Rattle.search_laws.specs.declared.answer.Verdict.TheVariants.{Won as IsWon, NotWon as IsNotWon, Spent as IsSpent}
 use Rattle.search_laws.specs.declared.answer.Answer.{Answer}
 use Rattle.search_laws.specs.Run.{Storing}
 use Rattle.search_laws.specs.Trial.{Trial, verdict_of}
@@ -20,10 +20,10 @@ use Rattle.solution_laws.proofs.Clash.{clash}
 use Rattle.solution_laws.proofs.Choice.{true_below, best-wins}
 use Rattle.solution_laws.proofs.Spent.{tried-length}
 
-said : (v : Verdict) → (v ≡ Is-spent) ⊎ ((w : Bool) × (v ≡ verdict_of w))
-said Is-won = inr (true, refl)
-said Is-not-won = inr (false, refl)
-said Is-spent = inl refl
+said : (v : Verdict) → (v ≡ IsSpent) ⊎ ((w : Bool) × (v ≡ verdict_of w))
+said IsWon = inr (true, refl)
+said IsNotWon = inr (false, refl)
+said IsSpent = inl refl
 
 done-or-not : (e : Ending) → (e ≡ Done) ⊎ (e ≡ Done → ⊥)
 done-or-not Done = inl refl
@@ -47,7 +47,7 @@ module _ (stored : Storing) (trials : TrialsEnd stored) (b : ℕ) where
   attempt none held = through [] 0 held no_more
   attempt (move x t m) held = let e = trials held t b in go e.0 e.1.0 e.1.1 (said e.0.verdict) (attempt m e.1.0)
     where
-      go : (a : Answer) (h : Held) → Trial stored held t b a h → (a.verdict ≡ Is-spent) ⊎ ((w : Bool) × (a.verdict ≡ verdict_of w)) → Attempt h m → Attempt held (move x t m)
+      go : (a : Answer) (h : Held) → Trial stored held t b a h → (a.verdict ≡ IsSpent) ⊎ ((w : Bool) × (a.verdict ≡ verdict_of w)) → Attempt h m → Attempt held (move x t m)
       go a h r (inl v) k = halted _ _ (spent r v)
       go a h r (inr v) (through ws n h' k) = through _ _ _ (tried r v.1 k)
       go a h r (inr v) (halted n h' k) = halted _ _ (later v.0 r v.1 k)

@@ -1,5 +1,5 @@
 -- The position that the lines above reach.
-use Rattle.std.proofs.Common.{◌≡◌, ℕ, zero, suc, ◌+◌, ◌-◌, ◌<◌, ◌≤◌, Bool, true, false, cond, ◌&&◌, eqb, List, [], ◌∷◌, ◌++◌, take, Some, None, Option, sym, refl, ap, ◌∙◌, subst, append_assoc, append-nil, arith, eq-eqb, eqb-true}
+use Rattle.std.proofs.Common.{◌≡◌, ℕ, zero, suc, ◌-◌, ◌<◌, ◌≤◌, Bool, true, false, cond, ◌&&◌, eqb, List, [], ◌∷◌, ◌++◌, take, Some, None, Option, sym, refl, ap, ◌∙◌, subst, append_assoc, append-nil, arith, eq-eqb, eqb-true}
 use Rattle.game.specs.Tree.{Tree, moves, minimax}
 use Rattle.solution_laws.specs.Lines.{Line, attacks, leads}
 use Rattle.solution_laws.specs.Claims.{by_text, or_else, last_at, step, reached, ForAWin, AttacksWin}
@@ -88,8 +88,8 @@ from_all start above (y ∷ ls) r (x ∷ a) l b e s =
     let k = from_all start (above ++ (y ∷ [])) ls r.1 a l b q s in
     subst (λ (z : List Line). ForAWin start z l) (append_assoc above (y ∷ []) a ∙ ap (λ (z : Line). above ++ (z ∷ a)) p) k
 
-pub attacks-win : (start : Tree) (ls : List Line) → RightFrom start [] ls → AttacksWin start ls
-attacks-win start ls r above l below e s = from_all start [] ls r above l below e s
+pub attacks_win : (start : Tree) (ls : List Line) → RightFrom start [] ls → AttacksWin start ls
+attacks_win start ls r above l below e s = from_all start [] ls r above l below e s
 
 -- a line of ply n + 1 for a winning move of the position
 abbrev pub Winning : Tree → List ℕ → Type 0

@@ -7,7 +7,7 @@ use Rattle.game.specs.declared.state.State.TheVariants.{Attacker}
 use Rattle.game.specs.Rules.{Rules}
 use Rattle.game.specs.Tree.{Tree, Reading, Moves, nowhere, state, moves, successors, texts, next, words, minimax}
 use Rattle.table.specs.Pairs.{Held}
-use Rattle.search_laws.specs.declared.answer.Verdict.TheVariants.{Won as Is-won, NotWon as Is-not-won}
+use Rattle.search_laws.specs.declared.answer.Verdict.TheVariants.{Won as IsWon, NotWon as IsNotWon}
 use Rattle.search_laws.specs.Run.{Storing}
 use Rattle.search_laws.specs.Trial.{verdict_of}
 use Rattle.search_laws.specs.Claims.{Sound, TrialsAreRight}
@@ -18,7 +18,7 @@ use Rattle.solution_laws.specs.Claims.{by_text, last_at, reached, KeysHaveLines,
 use Rattle.solution_laws.proofs.Clash.{clash}
 use Rattle.solution_laws.proofs.Texts.{Distinct, by-text-at, length-texts}
 use Rattle.solution_laws.proofs.Choice.{true_below, best-wins, best_none}
-use Rattle.solution_laws.proofs.Reached.{Deep, deep-join, deep-less, reached-deep, reached-next, RightFrom, right-join, attacks-win, Winning, AllWinning, winning_deep, winning_take, winning_right}
+use Rattle.solution_laws.proofs.Reached.{Deep, deep-join, deep-less, reached-deep, reached-next, RightFrom, right-join, attacks_win, Winning, AllWinning, winning_deep, winning_take, winning_right}
 use Rattle.solution_laws.proofs.Wins.{others_winning, no_lead, has_join, has_win}
 
 module _ (positions : Tree → Type 0) (closed : (t : Tree) → positions t → AllByRecursion positions (next t)) (distinct : (t : Tree) → positions t → Distinct (moves t))
@@ -33,7 +33,7 @@ module _ (positions : Tree → Type 0) (closed : (t : Tree) → positions t → 
       let e : w ≡ minimax t = value w (v) f.1 f.2 in
       (k.0, λ i. e i ∷ k.1 i)
     where
-      value : (w : Bool) → a.verdict ≡ verdict_of w → (a.verdict ≡ Is-won → minimax t ≡ true) → (a.verdict ≡ Is-not-won → minimax t ≡ false) → w ≡ minimax t
+      value : (w : Bool) → a.verdict ≡ verdict_of w → (a.verdict ≡ IsWon → minimax t ≡ true) → (a.verdict ≡ IsNotWon → minimax t ≡ false) → w ≡ minimax t
       value true e p q = sym (p e)
       value false e p q = sym (q e)
 
@@ -150,4 +150,4 @@ pub solutions_are_right_lem : {start : Tree} {positions : Tree → Type 0} {dept
     → (stored : Storing) → TrialsAreRight positions stored → SolutionsAreRight positions stored
 solutions_are_right_lem {positions = positions} rules stored right held t b i room p held' s pt a sol =
     let f = solves_fine positions rules.closed rules.distinct stored right b sol t [] 0 refl pt s refl in
-    record { sound = f.sound; attacks-win = attacks-win t p.lines f.fine; keys_have_lines = keys_in positions rules.closed rules.distinct stored right b sol refl a pt s }
+    record { sound = f.sound; attacks_win = attacks_win t p.lines f.fine; keys_have_lines = keys_in positions rules.closed rules.distinct stored right b sol refl a pt s }

@@ -4,7 +4,7 @@ use Rattle.game.specs.Tree.{Tree, Moves, nowhere, successors}
 use Rattle.table.specs.Pairs.{Held}
 use Rattle.search_laws.specs.Run.{Storing}
 use Rattle.search_laws.specs.Trial.{need, share}
-use Rattle.search_laws.specs.Claims.{SpentIsMeant as Trials-spent}
+use Rattle.search_laws.specs.Claims.{SpentIsMeant as TrialsSpent}
 use Rattle.solution_laws.specs.declared.ending.Ending.TheVariants.{Spent}
 use Rattle.solution_laws.specs.Solution.{AllTried, no_more, tried, Stops, spent, later, Part, Solves, won, not_won, stopped, no_win, full, win, defends, Replies, no_reply, no_room, last, reply}
 use Rattle.solution_laws.specs.Claims.{Reaches, here, further, SpentIsMeant}
@@ -16,7 +16,7 @@ pub tried-length : {stored : Storing} {b : ℕ} {held : Held} {m : Moves} {ws : 
 tried-length no_more = refl
 tried-length (tried r v more) = ap suc (tried-length more)
 
-module _ (stored : Storing) (meant : Trials-spent stored) (b : ℕ) (start : Tree) where
+module _ (stored : Storing) (meant : TrialsSpent stored) (b : ℕ) (start : Tree) where
   abbrev Beyond : Type 0
   Beyond = (u : Tree) × Reaches start u × (share b < need u)
 
@@ -48,5 +48,5 @@ module _ (stored : Storing) (meant : Trials-spent stored) (b : ℕ) (start : Tre
     replies_beyond (last z more e) l s = solves_beyond more (l 0 (omega arith)) s
     replies_beyond (reply z more e rs) l s = replies_beyond rs (λ i o. l (suc i) (omega arith)) s
 
-pub spent-is-meant : (stored : Storing) → Trials-spent stored → SpentIsMeant stored
+pub spent-is-meant : (stored : Storing) → TrialsSpent stored → SpentIsMeant stored
 spent-is-meant stored meant held t b i room p held' sol e = solves_beyond stored meant b t sol here e

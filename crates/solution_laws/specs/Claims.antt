@@ -57,7 +57,7 @@ KeysHaveLines start lines =
 -- From a sound table a solution leaves a sound table, its attacker's lines are for moves that win, and if it is done each key has a line.
 pub record SolutionIsRight (positions : Tree → Type 0) (t : Tree) (p : Part) (held' : Held) : Type 0 where
   pub sound : Sound positions held'
-  pub attacks-win : AttacksWin t p.lines
+  pub attacks_win : AttacksWin t p.lines
   pub keys_have_lines : p.ending ≡ Done → KeysHaveLines t p.lines
 
 abbrev pub SolutionsAreRight : (Tree → Type 0) → Storing → Type 0

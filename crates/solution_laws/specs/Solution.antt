@@ -3,7 +3,7 @@ use Rattle.std.specs.Prelude.{◌≡◌, ℕ, suc, ◌+◌, ◌-◌, ◌<◌, �
 use Rattle.game.specs.declared.state.State.TheVariants.{Won, NotWon, Attacker, Defender}
 use Rattle.game.specs.Tree.{Tree, Moves, none, move, nowhere, state, moves, next, words}
 use Rattle.table.specs.Pairs.{Held}
-use Rattle.search_laws.specs.declared.answer.Verdict.TheVariants.{Spent as Is-spent}
+use Rattle.search_laws.specs.declared.answer.Verdict.TheVariants.{Spent as IsSpent}
 use Rattle.search_laws.specs.declared.answer.Answer.{Answer}
 use Rattle.search_laws.specs.Run.{Storing}
 use Rattle.search_laws.specs.Trial.{Trial, verdict_of}
@@ -26,7 +26,7 @@ pub data AllTried (stored : Storing) (b : ℕ) : Held → Moves → List Bool �
 -- A trial is spent: the moves up to that one are tried, with the sum and the table after it.
 pub data Stops (stored : Storing) (b : ℕ) : Held → Moves → ℕ → Held → Type 0 where
   spent : {held held' : Held} {x : List ℕ} {t : Tree} {m : Moves} {a : Answer} →
-      Trial stored held t b a held' → a.verdict ≡ Is-spent → Stops stored b held (move x t m) (cost a) held'
+      Trial stored held t b a held' → a.verdict ≡ IsSpent → Stops stored b held (move x t m) (cost a) held'
   later : {held held' held'' : Held} {x : List ℕ} {t : Tree} {m : Moves} {a : Answer} {n : ℕ} (w : Bool) →
       Trial stored held t b a held' → a.verdict ≡ verdict_of w → Stops stored b held' m n held'' →
       Stops stored b held (move x t m) (cost a + n) held''

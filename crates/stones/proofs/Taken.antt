@@ -1,6 +1,6 @@
 -- What a pile is after a move.
 use Rattle.std.proofs.Common.{◌≡◌, ℕ, zero, suc, ◌-◌, ◌<◌, Bool, not, [], length, get_or, refl, ap, arith}
-use Rattle.game.specs.Tree.{Tree, next, words, nowhere}
+use Rattle.game.specs.Tree.{next, words, nowhere}
 use Rattle.stones.specs.Piles.{tree, take_one, take_two}
 
 pub taken : (n i : ℕ) (b : Bool) → i < length (next (tree n b)) → (tree (n - 1 - i) (not b) ≡ get_or (next (tree n b)) i nowhere) × (n - 1 - i < n)

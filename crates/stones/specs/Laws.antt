@@ -3,7 +3,7 @@ use Rattle.std.specs.Prelude.{◌≡◌, ℕ, zero, suc, ◌-◌, ◌^◌, ◌<�
 use Rattle.std.proofs.Common.{arith, sym, ap, subst, ◌∙◌, lit<}
 use Rattle.std.specs.List.{AllByRecursion}
 use Rattle.std.proofs.lemmas.Bool.{leb-true, and_parts}
-use Rattle.game.specs.Tree.{Tree, Reading, position, refused, state, rank, code, next, words, ended, nowhere}
+use Rattle.game.specs.Tree.{Tree, position, refused, state, rank, code, next, words, ended}
 use Rattle.game.specs.Rules.{Rules, Alike}
 use Rattle.game.specs.declared.state.State.TheVariants.{Defender}
 use Rattle.game.specs.declared.decline.Decline.TheVariants.{Aim, Form}

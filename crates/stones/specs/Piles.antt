@@ -1,6 +1,6 @@
 -- A pile of stones as a game: each move takes one or two, and whoever takes the last wins.
 use Rattle.std.specs.Prelude.{◌≡◌, ℕ, zero, suc, ◌-◌, ◌≤◌, Bool, true, false, cond, not, ◌&&◌, List, [], ◌∷◌, map, codes, ◌==◌, nat_le}
-use Rattle.game.specs.Tree.{Tree, Moves, Reading, node, none, move, position, refused}
+use Rattle.game.specs.Tree.{Tree, Reading, node, none, move, position, refused}
 use Rattle.game.specs.Paths.{before}
 use Rattle.game.specs.declared.state.State.{State}
 use Rattle.game.specs.declared.state.State.TheVariants.{Won, NotWon, Attacker, Defender}

@@ -1,10 +1,9 @@
 -- What the slots of the newest policy hold after a store, a clear and a making.
-use Rattle.std.specs.Prelude.{◌≡◌, ℕ, ◌+◌, ◌<◌, ◌≤◌, Bool, true, false, cond, ◌⊎◌, List, [], ◌∷◌, ◌++◌, length, get_or, take, replicate, Some, None, vec_len, Decides, fold, Option, ◌==◌, ◌≢◌, slice_index_or, slice_set, refl}
+use Rattle.std.specs.Prelude.{◌≡◌, ℕ, ◌<◌, ◌≤◌, Bool, true, false, cond, ◌⊎◌, List, ◌++◌, length, get_or, take, replicate, Some, None, vec_len, Decides, fold, Option, ◌==◌, ◌≢◌, slice_index_or, slice_set, refl}
 use Rattle.std.proofs.Common.{arith, sym, ap, ◌∙◌, inl, inr, get_or-set_same, get_or-set_other}
 use Rattle.std.proofs.Math.Path.{fun_ext}
 use mathlib.Core.HLevel.{is_prop→PathP}
 use base.Stored.{Coded-set, coded_ℕ}
-use Rattle.std.specs.Int.Bits.{bit_and}
 use borrow.Author.Tests.{eqb-true, eqb-false, clash}
 use Rattle.std.specs.Str.{bytes_eq}
 use Rattle.std.proofs.lemmas.List.{take_at, get_or-replicate}

@@ -1,5 +1,5 @@
 -- Proof and disproof numbers: their greatest, capped sums, what a frame asks of a list of them, and which two of them make a pair.
-use Rattle.std.specs.Prelude.{ℕ, zero, suc, min, Bool, true, false, cond, ◌&&◌, ◌||◌, List, [], ◌∷◌, sum, ◌==◌, nat_lt}
+use Rattle.std.specs.Prelude.{ℕ, zero, suc, min, Bool, false, cond, ◌&&◌, ◌||◌, List, [], ◌∷◌, sum, ◌==◌, nat_lt}
 
 abbrev pub top : ℕ
 top = 1000000000

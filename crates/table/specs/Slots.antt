@@ -1,5 +1,5 @@
 -- The slots of the newest policy: the mix of a code, and what slots hold.
-use Rattle.std.specs.Prelude.{◌≡◌, ℕ, suc, ◌+◌, ◌*◌, ◌/◌, ◌%◌, ◌^◌, ◌<◌, ◌≤◌, Bool, true, false, cond, List, [], ◌∷◌, Some, None, fold, Option, ◌==◌, bit_and, bit_or, bit_xor, slice_index_or}
+use Rattle.std.specs.Prelude.{ℕ, ◌*◌, ◌/◌, ◌%◌, ◌^◌, cond, List, [], Some, None, fold, Option, ◌==◌, bit_and, bit_or, bit_xor, slice_index_or}
 use Rattle.std.specs.Str.{bytes_eq}
 use Rattle.table.specs.declared.pair.Pair.{Pair}
 use Rattle.table.specs.declared.slot.Slot.{Slot}

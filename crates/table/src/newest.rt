@@ -3,7 +3,7 @@ ghost use Rattle.std.specs.Borrow.{sem, follows};
 ghost use Rattle.table.specs.Slots.{slot_of, in_slots, newest};
 ghost use Rattle.table.specs.Pairs.{Code};
 ghost use Rattle.std.specs.Vec.{with_item};
-ghost use Rattle.table.specs.contracts.slot.Newest.{the_row as newest-row};
+ghost use Rattle.table.specs.contracts.slot.Newest.{the_row as newest_row};
 ghost use Rattle.table.specs.contracts.slot.Slot.{the_row as slot_row};
 ghost use Rattle.std.proofs.Common.{inl};
 ghost use Rattle.table.specs.Kept.{own_code, other_code};
@@ -40,7 +40,7 @@ impl Newest {
 
     // Lends the slot of a code.
     fn slot(&mut self, code: &[u64; 5]) -> &mut Slot
-        ensures* { sem 𝓛 (follows newest-row slot_row self.entry.ghost_name result.ghost_name (λ w. record { slots = with_item self.old.slots (slot_of code.now) w; full = self.old.full })) }
+        ensures* { sem 𝓛 (follows newest_row slot_row self.entry.ghost_name result.ghost_name (λ w. record { slots = with_item self.old.slots (slot_of code.now) w; full = self.old.full })) }
     {
         &mut self.slots[slot_number(code)]
     }

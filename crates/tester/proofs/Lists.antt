@@ -123,7 +123,7 @@ module _ {G T : Type 0} (g : game.Ghosts G) (h : table.Ghosts T) (th : Theorems 
               let p : b ≡ b' = cc in
               let q : a ≡ a' = cc in
               subst (λ (x : ℕ). SolutionRight s.current x a' buffer') p (subst (λ (x : Solution). SolutionRight s.current b x buffer') q
-              (record { attacks-win = m.attacks-win k.sound; keys_have_lines = m.keys_have_lines k.sound; spent = m.spent; keys = m.keys; duals = m.duals }));
+              (record { attacks_win = m.attacks_win k.sound; keys_have_lines = m.keys_have_lines k.sound; spent = m.spent; keys = m.keys; duals = m.duals }));
         },
         record { here = k.here; linked = k.linked; sound = m.sound k.sound },
       )

@@ -18,7 +18,7 @@ use Rattle.solution_laws.proofs.Ends.{solutions_end}
 use Rattle.solution.specs.declared.answer.Solution.{Solution}
 use Rattle.solution.specs.Calls.{declined, Solved}
 use Rattle.tester.specs.declared.reply.Reply.{Reply}
-use Rattle.tester.specs.declared.reply.Reply.TheVariants.{NotSet, Declined, Tried, Solved as Is-solved}
+use Rattle.tester.specs.declared.reply.Reply.TheVariants.{NotSet, Declined, Tried, Solved as IsSolved}
 use Rattle.tester.specs.Calls.{Stand, Asked, set, play, take_back, trial, solution, clear, Lent, Does, sets, not_set, plays, not_played, takes_back, not_taken_back, tries, not_tried, solves, not_solved, clears}
 use Rattle.tester.specs.Claims.{OneWay}
 
@@ -67,7 +67,7 @@ module _ {G T : Type 0} (g : game.Ghosts G) (h : table.Ghosts T) (trials : Trial
   one s (not_tried {b = b} {l = l} {d = d} e) (not_tried {d = d'} f) = (ap Declined (one_decline (trial_decline b (length l.records)) d d' e f), refl, refl)
   one s (solves {i = i} {b = b} {l = l} {a = a} {held' = x} d v) (solves {a = a'} {held' = y} d' w) =
       let f = solutions s.held s.current b i (length l.buffer / 8) v.part w.part x y v.solves w.solves in (
-        ap Is-solved (one_solution a a' v.part w.part f.0 v.ending w.ending v.lines w.lines v.keys w.keys v.duals w.duals v.sum w.sum),
+        ap IsSolved (one_solution a a' v.part w.part f.0 v.ending w.ending v.lines w.lines v.keys w.keys v.duals w.duals v.sum w.sum),
         v.shown ∙ ap (λ (p : Part). written_over p.lines l.buffer) f.0 ∙ sym w.shown,
         λ j. record { current = s.current; earlier = s.earlier; held = f.1 j },
       )

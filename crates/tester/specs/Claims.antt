@@ -38,7 +38,7 @@ pub record TrialRight {G T : Type 0} (g : game.Ghosts G) (h : table.Ghosts T) (s
 -- c. it says spent only where some position reached by moves from its start needs more than the share of its budget.
 -- The keys and duals that it answers are those among its lines.
 pub record SolutionRight (t : Tree) (b : ℕ) (a : Solution) (buffer : List ℕ) : Type 0 where
-  pub attacks-win : AttacksWin t (lines_in a.lines buffer)
+  pub attacks_win : AttacksWin t (lines_in a.lines buffer)
   pub keys_have_lines : a.ending ≡ ending.Done → KeysHaveLines t (lines_in a.lines buffer)
   pub spent : a.ending ≡ ending.Spent → (u : Tree) × Reaches t u × (share b < need u)
   pub keys : a.keys ≡ keys (lines_in a.lines buffer)

@@ -1,4 +1,4 @@
-use Rattle.std.proofs.Common.{◌≡◌, ℕ, take, Some}
+use Rattle.std.proofs.Common.{◌≡◌, take, Some}
 use Rattle.form.specs.Forms.{led}
 use Rattle.form.proofs.read.Given as goal
 

@@ -1,4 +1,4 @@
-use Rattle.std.proofs.Common.{◌≡◌, refl, arith, rules}
+use Rattle.std.proofs.Common.{refl, arith}
 use Rattle.chess.specs.Code.{word}
 use Rattle.chess.specs.Codes.{word_more, digit_fits}
 use Rattle.chess.proofs.coding.word.Goals as goal

@@ -1,7 +1,6 @@
-use Rattle.std.proofs.Common.{◌≡◌, ℕ, ◌+◌, ◌<◌, ◌≤◌, is_some, sym, ap, ◌∙◌}
+use Rattle.std.proofs.Common.{is_some, ap, ◌∙◌}
 use lib.Bits.{bit_or}
-use Rattle.board.specs.Squares.{reach, away}
-use Rattle.chess_attacks.proofs.Walks.{Seen, seen_start, seen_edge, seen_all, seen-man, seen-on}
+use Rattle.chess_attacks.proofs.Walks.{seen_start, seen_edge, seen_all, seen-man, seen-on}
 use Rattle.chess_attacks.proofs.commands.line.Goals as goal
 
 pub loop-walked-init : goal.loop-walked-init

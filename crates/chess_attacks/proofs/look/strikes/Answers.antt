@@ -1,4 +1,4 @@
-use Rattle.std.proofs.Common.{◌≡◌, Bool, ◌&&◌, ltb, sym, ap, ◌∙◌}
+use Rattle.std.proofs.Common.{◌&&◌, ltb, sym, ap, ◌∙◌}
 use Rattle.chess_attacks.specs.contracts.men.Side.{the_type as side_type}
 use denote.Enum.Bare.{same_true, same_false}
 use Rattle.chess_attacks.specs.Ranges.{range_of, opposite}

@@ -1,7 +1,6 @@
-use Rattle.std.proofs.Common.{◌≡◌, ℕ, ◌+◌, ◌<◌, ◌≤◌, min, Bool, true, false, List, [], ◌∷◌, ◌++◌, take, sym, refl, ap, ◌∙◌, subst, arith}
-use Rattle.chess_moves.specs.declared.list.MoveList.{MoveList}
+use Rattle.std.proofs.Common.{◌≡◌, ℕ, min, List, [], ◌++◌, sym, ap, ◌∙◌, subst, arith}
 use Rattle.chess_moves.specs.declared.step.Move.{Move}
-use Rattle.chess_moves.specs.Moves.{Adds, listed, moves_of, moves_from, passing_of}
+use Rattle.chess_moves.specs.Moves.{Adds, moves_of, moves_from, passing_of}
 use Rattle.chess_moves.proofs.Adding.{adds_none, adds_more, adds_full, adds_as, adds_first}
 use Rattle.chess_moves.proofs.Parts.{from_none, from_more, from-rest}
 use Rattle.chess_moves.proofs.generation.first_moves.Goals as goal

@@ -1,4 +1,4 @@
-use Rattle.std.proofs.Common.{◌≡◌, ℕ, ltb, List, length, ap, ◌∙◌}
+use Rattle.std.proofs.Common.{◌≡◌, ltb, List, length, ap, ◌∙◌}
 use Rattle.std.proofs.lemmas.Bool.Decides.{Decides-at}
 use Rattle.chess_moves.specs.declared.step.Move.{Move}
 use Rattle.chess_moves.specs.Moves.{any_move, legal_moves}

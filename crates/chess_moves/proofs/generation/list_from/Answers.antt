@@ -1,4 +1,4 @@
-use Rattle.std.proofs.Common.{◌≡◌, ℕ, sym, ap, ◌∙◌}
+use Rattle.std.proofs.Common.{ap, ◌∙◌}
 use Rattle.board.specs.Masks.{bit}
 use Rattle.board.proofs.Bits.{bit_mask}
 use Rattle.chess_attacks.specs.Lists.{commands}

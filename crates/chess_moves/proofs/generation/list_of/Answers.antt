@@ -1,4 +1,4 @@
-use Rattle.std.proofs.Common.{◌≡◌, true, false, sym}
+use Rattle.std.proofs.Common.{true, false, sym}
 use Rattle.chess_attacks.specs.contracts.men.Side.{the_type as side_type}
 use denote.Enum.Bare.{same_true, same_false}
 use Rattle.chess_attacks.proofs.Sides.{side-true, side-false}

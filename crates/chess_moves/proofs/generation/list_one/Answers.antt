@@ -1,4 +1,4 @@
-use Rattle.std.proofs.Common.{◌≡◌, true, false, List, [], ◌∷◌, ap, ◌∙◌}
+use Rattle.std.proofs.Common.{true, false, [], ◌∷◌, ap, ◌∙◌}
 use Rattle.chess_attacks.specs.Men.{Squares}
 use Rattle.chess_attacks.specs.Lists.{checked}
 use Rattle.chess_moves.specs.declared.step.Move.{Move}

@@ -1,5 +1,4 @@
-use Rattle.std.proofs.Common.{◌≡◌, true, false, List, ◌++◌, Some, None, ap, ◌∙◌}
-use Rattle.chess_moves.specs.declared.step.Promotion.TheVariants.{Queen, Rook, Bishop, Knight}
+use Rattle.std.proofs.Common.{true, false}
 use Rattle.chess_moves.specs.Moves.{passing_of}
 use Rattle.chess_moves.proofs.Adding.{adds_four, adds_as}
 use Rattle.chess_moves.proofs.Parts.{tries_is}

@@ -1,4 +1,4 @@
-use Rattle.std.proofs.Common.{◌≡◌, Bool, true, cond, ◌&&◌, None, sym, ap, ◌∙◌}
+use Rattle.std.proofs.Common.{cond, None, sym, ap, ◌∙◌}
 use Rattle.chess_attacks.specs.contracts.men.Kind.{the_type as kind_type}
 use Rattle.chess_attacks.specs.declared.men.Kind.TheVariants.{Pawn}
 use denote.Enum.Bare.{same_true}

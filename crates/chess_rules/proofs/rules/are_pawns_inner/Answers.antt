@@ -1,4 +1,4 @@
-use Rattle.std.proofs.Common.{◌≡◌, ℕ, ◌≤◌, sym, ap, ◌∙◌, arith}
+use Rattle.std.proofs.Common.{◌≡◌, sym, ap, ◌∙◌, arith}
 use Rattle.chess_rules.specs.Lawful.{pawns_inner}
 use Rattle.chess_rules.proofs.Tested.{inner_none, inner_more, inner_not}
 use Rattle.chess_rules.proofs.rules.are_pawns_inner.Goals as goal

@@ -1,4 +1,4 @@
-use Rattle.std.proofs.Common.{◌≡◌, ℕ, ◌≤◌, true, false, sym, refl, ap, ◌∙◌, arith}
+use Rattle.std.proofs.Common.{◌≡◌, true, false, sym, ap, ◌∙◌, arith}
 use Rattle.chess_attacks.specs.Men.{king_of}
 use Rattle.chess_moves.specs.Count.{tally}
 use Rattle.chess_rules.proofs.Tallies.{tally_none, tally_more}

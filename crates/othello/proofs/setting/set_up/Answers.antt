@@ -1,10 +1,7 @@
-use Rattle.std.proofs.Common.{◌≡◌, ℕ, Bool, true, false, cond, ltb, Result, sym, ap, ◌∙◌, ap₂, arith}
+use Rattle.std.proofs.Common.{◌≡◌, true, false, ltb, sym, arith}
 use Rattle.std.proofs.lemmas.Bool.{lt-ltb, le-ltb}
 use Rattle.othello_rules.specs.Diagrams.{empties}
-use Rattle.othello_rules.specs.declared.diagram.Diagram.{Diagram}
-use Rattle.game.specs.Tree.{Reading, refused}
-use Rattle.game.specs.declared.decline.Decline.TheVariants.{Aim, Empties}
-use Rattle.othello.specs.Setting.{reading_of, no_aim, departs, too_empty}
+use Rattle.othello.specs.Setting.{no_aim, departs, too_empty}
 use Rattle.othello.proofs.setting.set_up.Goals as goal
 
 pub returns-then-aim-gt-LARGEST_AIM : goal.returns-then-aim-gt-LARGEST_AIM

@@ -1,4 +1,3 @@
-use Rattle.std.proofs.Common.{sym, ◌∙◌}
 use Rattle.othello_rules.proofs.Closing.{walking_start, walking_more, walked-own, walked_empty, walked_end}
 use Rattle.othello_rules.proofs.flips.flips_in.Goals as goal
 

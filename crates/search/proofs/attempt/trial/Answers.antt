@@ -3,7 +3,7 @@ use Rattle.game.specs.Tree.{Tree, minimax}
 use Rattle.table.specs.Pairs.{Held}
 use Rattle.search_laws.specs.Run.{Storing}
 use Rattle.search_laws.specs.Trial.{Trial}
-use Rattle.search_laws.specs.declared.answer.Verdict.TheVariants.{Won as Is-won, NotWon as Is-not-won}
+use Rattle.search_laws.specs.declared.answer.Verdict.TheVariants.{Won as IsWon, NotWon as IsNotWon}
 use Rattle.search_laws.specs.declared.answer.Answer.{Answer}
 use Rattle.search_laws.specs.Claims.{Keeping, Ranging, Sound}
 use Rattle.search_laws.specs.Calls.{Means, trial_decline}
@@ -14,7 +14,7 @@ use Rattle.search.proofs.attempt.trial.Goals as goal
 means : (S : Storing) → Keeping S → (positions : Tree → Type 0) → Ranging positions → (h : Held) (t : Tree) (b : ℕ) (a : Answer) (h' : Held)
     → positions t → Trial S h t b a h' → Means positions h t b a h'
 means S keeping positions ranging h t b a h' i r =
-    let right : Sound positions h → Sound positions h' × (a.verdict ≡ Is-won → minimax t ≡ true) × (a.verdict ≡ Is-not-won → minimax t ≡ false) =
+    let right : Sound positions h → Sound positions h' × (a.verdict ≡ IsWon → minimax t ≡ true) × (a.verdict ≡ IsNotWon → minimax t ≡ false) =
     λ s. trials_are_right_lem positions ranging S keeping h t b a h' s i r in
     record { sound = λ s. (right s).0; won = λ s. (right s).1; not_won = λ s. (right s).2; spent = spent-is-meant S h t b a h' r }
 

@@ -1,5 +1,4 @@
-use Rattle.std.proofs.Common.{get_or, ap, ◌∙◌}
-use Rattle.game.specs.Tree.{Tree, nowhere, next}
+use Rattle.std.proofs.Common.{ap, ◌∙◌}
 use Rattle.search_laws.specs.Run.{listed}
 use Rattle.search.proofs.Moves.{played, taken_back}
 use Rattle.search.proofs.listing.listed_move.Goals as goal

@@ -1,7 +1,6 @@
-use Rattle.std.proofs.Common.{◌≡◌, ℕ, ◌<◌, true, false, List, sym, ap, ◌∙◌, ap₂}
+use Rattle.std.proofs.Common.{◌≡◌, ℕ, ◌<◌, true, false, sym, ◌∙◌, ap₂}
 use Rattle.game.specs.Tree.{Tree, rank, next, nowhere}
 use Rattle.table.specs.declared.side.Side.{Side}
-use Rattle.search_laws.specs.declared.thresholds.Thresholds.{Thresholds}
 use Rattle.search_laws.specs.Run.{reached_at, turned, handed_down}
 use Rattle.search_laws.proofs.Frames.{all-at}
 use Rattle.search.proofs.Steps.{given, taken}

@@ -1,4 +1,4 @@
-use Rattle.std.proofs.Common.{sym, refl, ◌∙◌}
+use Rattle.std.proofs.Common.{sym, ◌∙◌}
 use Rattle.search.proofs.Backs.{back_more, back-all}
 use Rattle.search.proofs.unwind.take_all_back.Goals as goal
 

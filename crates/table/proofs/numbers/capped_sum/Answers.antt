@@ -1,4 +1,4 @@
-use Rattle.std.proofs.Common.{sym, ◌∙◌, ⊎_elim, arith}
+use Rattle.std.proofs.Common.{sym, ⊎_elim, arith}
 use Rattle.table.specs.Formed.{capped_low, capped_left, capped_right}
 use Rattle.table.proofs.numbers.capped_sum.Goals as goal
 

@@ -1,4 +1,4 @@
-use Rattle.std.proofs.Common.{◌≡◌, ◌∙◌, arith}
+use Rattle.std.proofs.Common.{◌∙◌, arith}
 use Rattle.game.specs.Tree.{nowhere}
 use Rattle.chess.specs.Trees.{tree}
 use Rattle.chess.specs.Grown.{choice_ply, choice_in, choice_tree, choice_none}

@@ -1,4 +1,4 @@
-use Rattle.std.proofs.Common.{◌≡◌, length, sym, ap, ◌∙◌}
+use Rattle.std.proofs.Common.{length, sym, ap, ◌∙◌}
 use Rattle.chess.specs.Grown.{count_is, choices_left, no_choices}
 use Rattle.chess.proofs.level.Level.count.Goals as goal
 

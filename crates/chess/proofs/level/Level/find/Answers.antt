@@ -1,4 +1,4 @@
-use Rattle.std.proofs.Common.{◌≡◌, ℕ, ◌<◌, List, [], map, length, sym, ap, ◌∙◌, subst, arith}
+use Rattle.std.proofs.Common.{ℕ, List, length, ap, subst, arith}
 use Rattle.chess_moves.specs.Moves.{listed}
 use Rattle.chess.specs.Finding.{Finds}
 use Rattle.chess.specs.Grown.{words_count, words_all, no_choices}

@@ -1,4 +1,4 @@
-use Rattle.std.proofs.Common.{◌≡◌, List, sym, ap}
+use Rattle.std.proofs.Common.{List, sym, ap}
 use Rattle.std.specs.List.{slice_get}
 use Rattle.chess_moves.specs.declared.step.Move.{Move}
 use Rattle.chess.specs.Grown.{chosen, no_choices}

@@ -1,4 +1,4 @@
-use Rattle.std.proofs.Common.{◌≡◌, Some, None, ap, ◌∙◌}
+use Rattle.std.proofs.Common.{Some, None, ap, ◌∙◌}
 use Rattle.chess.specs.Grown.{words_nth}
 use Rattle.chess.proofs.level.Level.text.Goals as goal
 

@@ -1,7 +1,6 @@
-use Rattle.std.proofs.Common.{◌≡◌, ℕ, ◌<◌, List, ◌∷◌, map, length, get_or, sym, ap, ◌∙◌, subst, arith}
+use Rattle.std.proofs.Common.{◌≡◌, ◌<◌, ◌∷◌, map, length, get_or, ap, ◌∙◌, subst, arith}
 use Rattle.game.specs.Tree.{Tree, nowhere, next}
 use Rattle.game.proofs.Room.{moved}
-use Rattle.chess.specs.declared.level.Level.{Level}
 use Rattle.chess.specs.declared.problem.Problem.{Problem}
 use Rattle.chess.specs.Positions.{tree_of, level_tree}
 use Rattle.chess.specs.Ranks.{level_rank}

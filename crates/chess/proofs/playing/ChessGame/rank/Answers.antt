@@ -1,4 +1,4 @@
-use Rattle.std.proofs.Common.{◌≡◌, ℕ, sym, ap, ◌∙◌}
+use Rattle.std.proofs.Common.{sym, ap, ◌∙◌}
 use Rattle.chess.specs.declared.level.Level.{Level}
 use Rattle.chess.specs.Grown.{rank_is}
 use Rattle.chess.proofs.playing.ChessGame.rank.Goals as goal

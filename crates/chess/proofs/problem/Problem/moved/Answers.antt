@@ -1,4 +1,4 @@
-use Rattle.std.proofs.Common.{◌≡◌, sym, subst}
+use Rattle.std.proofs.Common.{sym, subst}
 use Rattle.chess_rules.specs.Lawful.{Lawful}
 use Rattle.chess_rules.proofs.Tested.{lawful_means}
 use Rattle.chess.specs.Grown.{choice_keeps, keeps_of}

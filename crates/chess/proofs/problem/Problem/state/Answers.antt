@@ -1,4 +1,4 @@
-use Rattle.std.proofs.Common.{◌≡◌, Bool, not, sym, ap, ◌∙◌}
+use Rattle.std.proofs.Common.{Bool, not, sym, ap, ◌∙◌}
 use Rattle.chess_attacks.specs.Men.{same_side}
 use Rattle.chess_moves.specs.Moves.{legal_moves}
 use Rattle.chess.specs.Trees.{state_of, standing, is_in_check}

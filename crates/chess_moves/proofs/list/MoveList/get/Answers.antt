@@ -1,4 +1,4 @@
-use Rattle.std.proofs.Common.{◌≡◌, ◌<◌, ◌≤◌, length, sym, ◌∙◌, arith}
+use Rattle.std.proofs.Common.{◌≤◌, length, sym, ◌∙◌, arith}
 use Rattle.chess_moves.proofs.Cut.{listing_count, taken_in, taken_out}
 use Rattle.chess_moves.proofs.list.MoveList.get.Goals as goal
 

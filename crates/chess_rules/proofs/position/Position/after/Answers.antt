@@ -1,5 +1,5 @@
-use Rattle.std.proofs.Common.{◌≡◌, sym, ap, ◌∙◌, rules}
-use Rattle.chess_moves.specs.Moves.{legal_moves, listed}
+use Rattle.std.proofs.Common.{sym, ap, ◌∙◌}
+use Rattle.chess_moves.specs.Moves.{listed}
 use Rattle.chess_rules.specs.Lawful.{lawful}
 use Rattle.chess_rules.proofs.Listed.{next_fair}
 use Rattle.chess_rules.proofs.position.Position.after.Goals as goal

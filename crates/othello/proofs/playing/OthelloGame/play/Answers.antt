@@ -1,4 +1,4 @@
-use Rattle.std.proofs.Common.{◌≡◌, ◌<◌, map, ap, ◌∙◌, subst}
+use Rattle.std.proofs.Common.{map, ap, ◌∙◌, subst}
 use Rattle.game.proofs.Room.{moved}
 use Rattle.othello.specs.Positions.{tree_of, position_rank}
 use Rattle.othello.specs.declared.position.Position.{Position}

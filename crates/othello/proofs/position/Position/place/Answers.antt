@@ -1,4 +1,4 @@
-use Rattle.std.proofs.Common.{sym, ◌∙◌, subst}
+use Rattle.std.proofs.Common.{sym, subst}
 use Rattle.othello_rules.specs.Diagrams.{placeable}
 use Rattle.othello.specs.Kept.{Keeps, placed_keeps, some_placed}
 use Rattle.othello.proofs.position.Position.place.Goals as goal

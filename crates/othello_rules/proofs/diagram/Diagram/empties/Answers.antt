@@ -1,4 +1,4 @@
-use Rattle.std.proofs.Common.{◌≡◌, ◌^◌, ◌<◌, not, ap, ◌∙◌, arith}
+use Rattle.std.proofs.Common.{◌^◌, ◌<◌, not, ap, ◌∙◌, arith}
 use lib.Bits.{bit_or, or_lt}
 use Rattle.board.proofs.Bits.{bit_not, bit-or}
 use Rattle.othello_rules.specs.Diagrams.{empties}

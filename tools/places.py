@@ -74,9 +74,13 @@ def bodies():
                 i += 1
                 continue
             indent = m.group(1)
+            # the head ends with the `{` of the body, with `{}`, or with the `;` of a declaration
             j = i
-            while j < len(rows) and rows[j] != indent + '}' and not re.search(r'(\{\}|;)$', rows[j]):
+            while j < len(rows) and not re.fullmatch(indent + r'\{(\})?|.*[^{]\{|.*\{\}|.*;', rows[j].split('//')[0].rstrip()):
                 j += 1
+            if j < len(rows) and rows[j].rstrip().endswith('{'):
+                while j < len(rows) and rows[j] != indent + '}':
+                    j += 1
             yield name, i + 1, m.group(5), rows[i:j + 1]
             i = j + 1
 

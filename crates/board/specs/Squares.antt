@@ -42,3 +42,28 @@ away SouthWest s k = square_at (file s - k) (row s - k)
 -- the squares in a direction, the nearest first
 abbrev pub ray : Direction → ℕ → List ℕ
 ray d s = map (away d s) (range_with_len 1 (reach d s))
+
+-- all eight directions
+abbrev pub directions : List Direction
+directions = East ∷ West ∷ North ∷ South ∷ NorthEast ∷ NorthWest ∷ SouthEast ∷ SouthWest ∷ []
+
+abbrev pub opposite : Direction → Direction
+opposite East = West
+opposite West = East
+opposite North = South
+opposite South = North
+opposite NorthEast = SouthWest
+opposite NorthWest = SouthEast
+opposite SouthEast = NorthWest
+opposite SouthWest = NorthEast
+
+-- what one step adds to the number of a square, modulo 256
+abbrev pub step : Direction → ℕ
+step East = 1
+step West = 255
+step North = 8
+step South = 248
+step NorthEast = 9
+step NorthWest = 7
+step SouthEast = 249
+step SouthWest = 247

@@ -1,4 +1,7 @@
-// The eight directions of a line: north is towards row 8, east towards file h.
+ghost use Rattle.std.specs.Prelude.{◌≡◌};
+ghost use Rattle.board.specs.Squares.{opposite, step};
+
+/// The eight directions of a line: north is towards row 8, east towards file h.
 #[derive(Clone, Copy, PartialEq, Eq, Debug)]
 pub enum Direction {
     East,
@@ -9,4 +12,50 @@ pub enum Direction {
     NorthWest,
     SouthEast,
     SouthWest,
+}
+
+impl Direction {
+    /// All eight directions.
+    pub const ALL: [Direction; 8] = [
+        Direction::East,
+        Direction::West,
+        Direction::North,
+        Direction::South,
+        Direction::NorthEast,
+        Direction::NorthWest,
+        Direction::SouthEast,
+        Direction::SouthWest,
+    ];
+
+    /// The direction that leads back.
+    pub fn opposite(self) -> Direction
+        ensures { result ≡ opposite self }
+    {
+        match self {
+            Direction::East => Direction::West,
+            Direction::West => Direction::East,
+            Direction::North => Direction::South,
+            Direction::South => Direction::North,
+            Direction::NorthEast => Direction::SouthWest,
+            Direction::NorthWest => Direction::SouthEast,
+            Direction::SouthEast => Direction::NorthWest,
+            Direction::SouthWest => Direction::NorthEast,
+        }
+    }
+
+    // What one step adds to the number of a square, modulo 256.
+    pub(crate) fn step(self) -> u8
+        ensures { result ≡ step self }
+    {
+        match self {
+            Direction::East => 1,
+            Direction::West => 255,
+            Direction::North => 8,
+            Direction::South => 248,
+            Direction::NorthEast => 9,
+            Direction::NorthWest => 7,
+            Direction::SouthEast => 249,
+            Direction::SouthWest => 247,
+        }
+    }
 }

@@ -24,7 +24,7 @@ const EDGE: [u8; 512] = [
 ];
 
 impl Square {
-    // How many steps in the direction lead from the square to the edge of the board.
+    /// How many steps in the direction lead from the square to the edge of the board.
     pub fn steps(self, direction: Direction) -> u8
         ensures { result ≡ reach direction self.number }
     {

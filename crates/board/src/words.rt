@@ -4,14 +4,15 @@ ghost use Rattle.board.specs.Masks.{bit, size};
 use crate::Square;
 
 impl Square {
-    // The word that has the bit of this square alone.
+    /// The word that has the bit of this square alone.
     pub fn single(self) -> u64
         ensures { result ≡ 2 ^ self.number }
     {
         1 << self.number
     }
 
-    // Whether the word has the bit of the square.
+    /// Whether the word has the bit of the square.
+    #[tactic(auto, using(crate::proofs::Bits::bit_test))]
     pub fn within(self, word: u64) -> bool
         ensures { result ≡ bit word self.number }
     {
@@ -19,7 +20,7 @@ impl Square {
     }
 }
 
-// How many squares the word has.
+/// How many squares the word has.
 pub fn count(word: u64) -> u32
     ensures { result ≡ size (bit word) }
 {

@@ -1,5 +1,6 @@
 -- The place where reading stops is the place where the text departs from the form.
-use Rattle.std.proofs.Common.{◌≡◌, ℕ, zero, suc, ◌+◌, ◌<◌, ◌≤◌, List, [], ◌∷◌, ◌++◌, length, get_or, take, Some, None, Ok, Err, Option, sym, refl, ap, ◌∙◌, subst, inl, inr, add-zero, arith}
+use Rattle.std.proofs.Common.{◌≡◌, ℕ, zero, suc, ◌+◌, ◌<◌, ◌≤◌, List, [], ◌∷◌, ◌++◌, length, get_or, take, Some, None, Ok, Err, Option, sym, refl, ap, ◌∙◌, subst, inl, inr, add-zero, zero-add, arith, MatchResult}
+use Rattle.std.specs.Option.{ok_or}
 use Rattle.std.proofs.lemmas.Bool.{cases_order}
 use Rattle.std.proofs.lemmas.List.{append_assoc, append-nil, take_all}
 use Rattle.form.specs.Forms.{Begins, Departs, Form, given, led, Says, TextsOf, reading_from, reading, Lively}
@@ -104,6 +105,14 @@ module _ {S A : Type 0} (f : Form S A) (Fit : S → Type 0) (l : Lively f Fit) w
       clash a s p q =
           let k : s ≡ u = cc in
           never a (sym z ∙ ap f.content (sym k) ∙ q)
+
+  -- what reading gives at the end of the text
+  pub read_end : (t : List ℕ) (u : S) → led f f.first t ≡ Some u → Fit u → (o : Option A) → f.content u ≡ o
+      → (ok_or o (length t) ≡ reading f t) × MatchResult (ok_or o (length t)) (λ a. Says f t a) (λ n. Departs (TextsOf f) t n)
+  read_end t u e h None z =
+      (sym (finished f 0 f.first t u e ∙ ap (λ o. given o (Err (0 + length t)) (λ a. Ok a)) z ∙ ap Err (zero-add (length t))), departs_end t u e h z)
+  read_end t u e h (Some a) z =
+      (sym (finished f 0 f.first t u e ∙ ap (λ o. given o (Err (0 + length t)) (λ a. Ok a)) z), (u, (e, z)))
 
 -- the same texts, the same place
 pub departs-same : (P Q : List ℕ → Type 0) → ((t : List ℕ) → P t → Q t) → ((t : List ℕ) → Q t → P t)

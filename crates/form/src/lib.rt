@@ -8,8 +8,9 @@ mod line;
 
 pub use line::Line;
 
-// A reader of texts of a form: a state that says what may come next.
+/// A reader of texts of a form: a state that says what may come next.
 pub trait Form: Sized + Drop {
+    /// What a text of the form says.
     type Content;
 
     // the form that is read
@@ -18,22 +19,23 @@ pub trait Form: Sized + Drop {
     // the states that reading can come to
     ghost fit: { Self → Type 0 };
 
+    /// The state before the first byte.
     fn first() -> Self
         ensures { result ≡ form.first };
 
-    // The state after one byte more, or none where no text of the form goes on with it.
+    /// The state after one byte more, or none where no text of the form goes on with it.
     fn next(self, byte: u8) -> Option<Self>
         requires { fit self }
         ensures { result ≡ form.next self byte };
 
-    // What a text that ends here says, or none where no text of the form ends.
+    /// What a text that ends here says, or none where no text of the form ends.
     fn content(self) -> Option<Self::Content>
         ensures { result ≡ form.content self };
 
     ghost lively: { Lively form fit };
 }
 
-// What a text says, or the place where it departs from the form.
+/// What a text says, or the place where it departs from the form: how many of its bytes a text of the form begins with.
 pub fn read<F: Form>(text: &[u8]) -> Result<F::Content, usize>
     ensures exact { result ≡ reading F.Form.form text.now }
     ensures meaning { MatchResult result
@@ -41,20 +43,14 @@ pub fn read<F: Form>(text: &[u8]) -> Result<F::Content, usize>
         (λ n. Departs (TextsOf F.Form.form) text.now n) }
 {
     let mut state = F::first();
-    for (i, byte) in text.iter().enumerate() {
-        state = match state.next(*byte) {
-            Some(next) => next,
-            None => return Err(i),
-        };
+    for (place, byte) in text.iter().enumerate() {
+        state = state.next(*byte).ok_or(place)?;
     }
-    match state.content() {
-        Some(content) => Ok(content),
-        None => Err(text.len()),
-    }
+    state.content().ok_or(text.len())
 }
 
 impl Line {
-    // A line with nothing written into it.
+    /// A line with nothing written into it.
     pub fn new() -> Line
         ensures { Holds result [] }
     {
@@ -64,7 +60,7 @@ impl Line {
         }
     }
 
-    // One byte more, where there is room for it.
+    /// One byte more at the end of the text: the same line where the 87 bytes are full.
     pub fn push(self, byte: u8) -> Line
         ensures writes { (t : List ℕ) → Holds self t → length t < 87 → Holds result (t ++ byte ∷ []) }
         ensures full { 87 ≤ self.len → result ≡ self }
@@ -80,7 +76,7 @@ impl Line {
         }
     }
 
-    // The text that was written, and blanks.
+    /// The text that was written, and blanks.
     pub fn bytes(self) -> [u8; 87]
         ensures { (t : List ℕ) → Holds self t → result ≡ padded 87 t }
     {

@@ -4,7 +4,7 @@ ghost use Rattle.std.specs.Prelude.{◌≤◌, length};
 
 mod methods;
 
-// A stack of entries of any type, in a slice that is lent to it: the first `len` entries of the slice, the top one last.
+/// A stack of entries of any type, in a slice that is lent to it: the first `len` entries of the slice, the top one last.
 #[derive(Drop)]
 pub struct Stack<'a, T> {
     slots: &'a mut [T],

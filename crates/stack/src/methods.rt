@@ -4,7 +4,7 @@ ghost use Rattle.stack.specs.Contents.{contents, room};
 use crate::Stack;
 
 impl<'a, T: Copy> Stack<'a, T> {
-    // An empty stack in a lent slice.
+    /// An empty stack in a lent slice, with room for as many entries as the slice is long.
     pub fn new(slots: &'a mut [T]) -> Self
         ensures empty { contents result ≡ [] }
         ensures room { room result ≡ length slots.old }
@@ -12,7 +12,7 @@ impl<'a, T: Copy> Stack<'a, T> {
         Stack { slots, len: 0 }
     }
 
-    // Adds an entry on top, or hands it back where the stack is full.
+    /// Adds an entry on top: `Err`, with the entry, where the stack is full.
     pub fn push(&mut self, entry: T) -> Result<(), T>
         ensures pushed { MatchResult result
             (λ _. (length (contents self.old) < room self.old)
@@ -29,37 +29,24 @@ impl<'a, T: Copy> Stack<'a, T> {
         Ok(())
     }
 
-    // Takes the top entry off, if there is one.
+    /// Takes the top entry off: `None` where the stack is empty.
     pub fn pop(&mut self) -> Option<T>
         ensures popped { MatchOption result
             ((contents self.old ≡ []) × (contents self.new ≡ []))
             (λ e. contents self.old ≡ e ∷ contents self.new) }
         ensures room { room self.new ≡ room self.old }
     {
-        if self.len == 0 {
-            return None;
-        }
+        let entry = self.top()?;
         self.len -= 1;
-        Some(self.slots[self.len])
+        Some(entry)
     }
 
-    // The top entry, if there is one.
+    /// The top entry: `None` where the stack is empty.
     pub fn top(&self) -> Option<T>
         ensures { MatchOption result
             (contents self.now ≡ [])
             (λ e. (below : List T) × (contents self.now ≡ e ∷ below)) }
     {
-        if self.len == 0 {
-            return None;
-        }
-        Some(entry_at(self.slots, self.len - 1))
+        self.slots[..self.len].last().copied()
     }
-}
-
-// The entry at a place of the slice.
-fn entry_at<T: Copy>(slots: &[T], i: usize) -> T
-    requires { i < length slots.now }
-    ensures { result ≡ slice_index_or slots.now i result }
-{
-    slots[i]
 }

@@ -18,6 +18,10 @@ not_won = record { proof = top; disproof = 0; formed = tt }
 abbrev pub fresh : Pair
 fresh = record { proof = 1; disproof = 1; formed = tt }
 
+abbrev pub other : Side → Side
+other Attacker = Defender
+other Defender = Attacker
+
 -- the number that the side to move wants to bring to 0, and the other
 abbrev pub own : Side → Pair → ℕ
 own Attacker p = p.proof

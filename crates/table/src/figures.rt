@@ -4,13 +4,16 @@ ghost use Rattle.table.specs.Frames.{Tallied, Figured};
 
 use crate::{Pair, Side, TOP, capped_sum};
 
-// What a frame has from its successors' pairs, for the side to move: its own pair, the first place of the least number, the least number
-// among the others, and the capped sum of the others' numbers against the side.
+/// What a frame has from its successors' pairs, for the side to move.
 #[derive(Clone, Copy)]
 pub struct Figures {
+    /// its own pair
     pub pair: Pair,
+    /// the first place of the least number, counted from 0
     pub place: usize,
+    /// the least number among the others, `TOP` where there are none
     pub second: u32,
+    /// the capped sum of the others' numbers against the side
     pub rest: u32,
 }
 
@@ -54,7 +57,7 @@ impl Tally {
 }
 
 impl Figures {
-    // The figures of a frame's successors' pairs, in one pass.
+    /// The figures of a frame's successors' pairs, in one pass.
     pub fn of(pairs: &[Pair], side: Side) -> Figures
         ensures { Figured side pairs.now result }
     {

@@ -19,8 +19,8 @@ pub use pair::Pair;
 pub use side::Side;
 pub use slot::Newest;
 
-// A transposition table: from codes to pairs. All answers, and what is held after a call, follow from what was held before it and from
-// the arguments.
+/// A transposition table: from codes to pairs. All answers, and what is held after a call, follow from what was held before it and from
+/// the arguments.
 pub trait Table: Sized {
     // what a table holds
     ghost held: { Self → Held };
@@ -28,12 +28,15 @@ pub trait Table: Sized {
     // what is held after a store: its code has the new pair, its old one or none; every other code has what it had or none
     ghost stored: { Held → Code → Pair → Held };
 
+    /// The pair that is held for a code: `None` where there is none.
     fn look_up(&self, code: &[u64; 5]) -> Option<Pair>
         ensures { result ≡ held self.now code.now };
 
+    /// Stores a pair for a code.
     fn store(&mut self, code: &[u64; 5], pair: Pair)
         ensures { held self.new ≡ stored (held self.old) code.now pair };
 
+    /// Empties the table.
     fn clear(&mut self)
         ensures { (c : Code) → held self.new c ≡ None };
 
@@ -42,7 +45,7 @@ pub trait Table: Sized {
     ghost other: { (h : Held) (c d : Code) (p : Pair) → (c ≢ d) → (stored h c p d ≡ h d) ⊎ (stored h c p d ≡ None) };
 }
 
-// Stores a pair, and says what is then held of its code: the pair, what was held before, or nothing.
+/// Stores a pair, and says what is then held of its code: the pair, what was held before, or nothing.
 pub fn remember<T: Table>(table: &mut T, code: &[u64; 5], pair: Pair) -> Option<Pair>
     ensures holds { result ≡ T.Table.held table.new code.now }
     ensures stores { T.Table.held table.new ≡ T.Table.stored (T.Table.held table.old) code.now pair }

@@ -13,21 +13,21 @@ use crate::{Pair, Table};
 use std::alloc::{AllocError, Global};
 
 // The number of the slot of a code: a mix of its five words.
+#[tactic(auto, unfolding(crate::specs::Slots::slot_of, crate::specs::Slots::mixed, crate::specs::Slots::turned))]
 fn slot_number(code: &[u64; 5]) -> usize
     ensures at { result ≡ slot_of code.now }
     ensures within { result < 512 }
 {
-    let mut mix = 0u64;
-    for word in code {
-        mix = (mix ^ *word)
+    let mix = code.iter().fold(0u64, |mix, word| {
+        (mix ^ word)
             .wrapping_mul(0x9e37_79b9_7f4a_7c15)
-            .rotate_left(29);
-    }
+            .rotate_left(29)
+    });
     (mix & 511) as usize
 }
 
 impl Newest {
-    // A table that holds nothing.
+    /// A table that holds nothing. `Err` exactly where there is no memory for its 512 slots.
     pub fn new(heap: Global) -> Result<Newest, AllocError>
         ensures { IfOk result (λ t. (c : Code) → in_slots t.slots.items c ≡ None) }
     {

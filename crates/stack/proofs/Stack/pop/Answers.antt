@@ -1,14 +1,12 @@
-use Rattle.std.proofs.Common.{refl, rules}
-use Rattle.stack.proofs.Tops.{tops-top, tops-at-none}
+use Rattle.std.proofs.Common.{◌≢◌, arith}
+use Rattle.stack.proofs.Tops.{tops-some, tops-less}
 use Rattle.stack.proofs.Stack.pop.Goals as goal
 
-pub returns-then-self-eq0 : goal.returns-then-self-eq0
-returns-then-self-eq0 g c =
-    let e = tops-at-none c.args.self.now.len c.args.self.now.slots.now c.if-self-eq0.true in
-    record { popped = (e, e); room = refl }
+pub overflow_sub-self : goal.overflow_sub-self
+overflow_sub-self g c =
+    let some : c.args.self.now.len ≢ 0 = tops-some c.args.self.now.len c.args.self.now.slots.now c.in_ok-entry.entry c.in_ok-entry.ensures.0 c.in_ok-entry.ensures.1 in
+    omega arith
 
-pub returns : goal.returns
-returns g c = record {
-  popped = tops-top c.args.self.now.len c.args.self.now.slots.now c.index-self-self.result c.if-self-eq0.false c.args.self.now.fits;
-  room = search rules;
-}
+pub returns-clause-popped : goal.returns-clause-popped
+returns-clause-popped g c =
+    tops-less c.args.self.now.len c.args.self.now.slots.now c.in_ok-entry.entry c.in_ok-entry.ensures.0 c.args.self.now.fits c.in_ok-entry.ensures.1

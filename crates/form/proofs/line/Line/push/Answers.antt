@@ -4,28 +4,23 @@ use Rattle.form.specs.Forms.{padded}
 use Rattle.form.proofs.Padding.{padded-more}
 use Rattle.form.proofs.line.Line.push.Goals as goal
 
-pub invariant_of-result : goal.invariant_of-result
-invariant_of-result c =
+pub invariant_of-result-clause-blanks : goal.invariant_of-result-clause-blanks
+invariant_of-result-clause-blanks c =
     let l = c.args.self in
     let b = c.args.byte in
     let h : l.len < length l.bytes = omega arith in
     let t = take l.len l.bytes in
-    let k : length t ≡ l.len = omega (arith, length-take l.len l.bytes) in record {
-      within = omega arith;
-      blanks = ap (λ (x : List ℕ). set x l.len b) l.blanks
-          ∙ padded-more 87 t l.len b k (omega arith)
-          ∙ sym (ap (padded 87) (take_more_set l.bytes l.len b h));
-    }
+    let k : length t ≡ l.len = omega (arith, length-take l.len l.bytes) in
+    ap (λ (x : List ℕ). set x l.len b) l.blanks
+    ∙ padded-more 87 t l.len b k (omega arith)
+    ∙ sym (ap (padded 87) (take_more_set l.bytes l.len b h))
 
-pub returns : goal.returns
-returns c =
+pub returns-clause-writes : goal.returns-clause-writes
+returns-clause-writes c =
     let l = c.args.self in
+    λ t h k.
+    (let e = h.len in
     record {
-      writes = λ t h k.
-          (let e = h.len in
-          record {
-            bytes = ap (λ (x : List ℕ). set x l.len c.args.byte) h.bytes ∙ padded-more 87 t l.len c.args.byte (sym e) (omega arith);
-            len = omega (arith, e, length-append t (c.args.byte ∷ []));
-          });
-      full = λ h. absurd (omega arith);
-    }
+      bytes = ap (λ (x : List ℕ). set x l.len c.args.byte) h.bytes ∙ padded-more 87 t l.len c.args.byte (sym e) (omega arith);
+      len = omega (arith, e, length-append t (c.args.byte ∷ []));
+    })

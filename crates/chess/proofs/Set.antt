@@ -1,9 +1,9 @@
 -- What setting makes of a text, from what reading makes of it.
-use Rattle.std.proofs.Common.{◌≡◌, ℕ, ◌-◌, ◌*◌, ◌<◌, ◌≤◌, Bool, true, false, cond, ◌&&◌, leb, ◌⊎◌, List, Ok, Err, Result, sym, refl, ap, ◌∙◌, inl, inr, arith}
+use Rattle.std.proofs.Common.{◌≡◌, ℕ, ◌-◌, ◌*◌, ◌<◌, ◌≤◌, Bool, true, false, cond, ◌&&◌, leb, ◌⊎◌, List, Ok, Result, sym, refl, ap, ◌∙◌, inl, inr, arith}
 use Rattle.std.proofs.lemmas.Bool.Decides.{nat_tests}
 use Rattle.form.specs.Forms.{reading}
 use Rattle.game.specs.Tree.{position, refused}
-use Rattle.game.specs.declared.decline.Decline.TheVariants.{Aim, Form, Unlawful}
+use Rattle.game.specs.declared.decline.Decline.TheVariants.{Aim, Unlawful}
 use Rattle.chess_moves.specs.declared.diagram.Diagram.{Diagram}
 use Rattle.chess_text.specs.Reading.{form}
 use Rattle.chess.specs.Trees.{tree}
@@ -12,11 +12,6 @@ use Rattle.chess_rules.proofs.Tested.{lawful_means}
 use Rattle.chess.specs.Setting.{judged, reading_of, Aims}
 
 module _ (t : List ℕ) (aim : ℕ) where
-  pub no_aim_set : (aim < 1) ⊎ ((1 ≤ aim) × (7 < aim)) → reading_of t aim ≡ refused Aim 0
-  no_aim_set h =
-      let e : (leb 1 aim && leb aim 7) ≡ false = elim h [ inl k ↦ grind (arith, nat_tests) | inr k ↦ grind (arith, nat_tests) ] in
-      ap (λ (x : Bool). cond x (judged aim (reading form t)) (refused Aim 0)) e
-
   pub no_aim_is : (aim < 1) ⊎ ((1 ≤ aim) × (7 < aim)) → Aims aim → ⊥
   no_aim_is (inl h) a = omega arith
   no_aim_is (inr h) a = omega arith
@@ -25,9 +20,6 @@ module _ (t : List ℕ) (aim : ℕ) where
   aim_set a r q =
       let e : (leb 1 aim && leb aim 7) ≡ true = let h = a.some in let k = a.few in grind (arith, nat_tests) in
       ap (λ (x : Bool). cond x (judged aim (reading form t)) (refused Aim 0)) e ∙ ap (judged aim) (sym q)
-
-  pub no_text_set : Aims aim → (n : ℕ) → Err n ≡ reading form t → reading_of t aim ≡ refused Form n
-  no_text_set a n q = aim_set a (Err n) q
 
   pub diagram_set : Aims aim → (d : Diagram) (x : Bool) → Ok d ≡ reading form t → x ≡ lawful d
       → reading_of t aim ≡ cond x (position (tree d.mover (2 * aim - 1) d)) (refused Unlawful 0)

@@ -2,7 +2,6 @@ pub mod Code
 pub mod Trees
 pub mod Choices
 pub mod Kept
-pub mod Ranks
 pub mod Positions
 pub mod Setting
 pub mod Finding

@@ -1,8 +1,6 @@
 -- Which trees are chess positions, and the position of a fresh game.
-use Rattle.std.specs.Prelude.{◌≡◌, ℕ, ◌≤◌, List, map, replicate, Some, None, Option, slice_set}
+use Rattle.std.specs.Prelude.{◌≡◌, ℕ, ◌≤◌, replicate, Some, None, Option, slice_set}
 use Rattle.game.specs.Tree.{Tree}
-use Rattle.game.specs.Paths.{before}
-use Rattle.game.specs.declared.path.Path.{Path}
 use Rattle.chess_attacks.specs.declared.men.Man.{Man}
 use Rattle.chess_attacks.specs.declared.men.Kind.TheVariants.{King}
 use Rattle.chess_attacks.specs.declared.men.Side.{Side}
@@ -27,10 +25,6 @@ tree_of p = tree p.attacker p.plies p.position.diagram
 
 abbrev pub level_tree : Level → Tree
 level_tree l = tree_of l.problem
-
--- a path's earlier positions, the latest first
-abbrev pub earlier_trees : Path Level → List Tree
-earlier_trees p = map level_tree (before p)
 
 abbrev pub a_king : Side → Option Man
 a_king a = Some (record { side = a; kind = King })

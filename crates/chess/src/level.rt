@@ -5,9 +5,9 @@ ghost use Rattle.chess.specs.Kept.{keeps};
 use crate::problem::Problem;
 use chess_moves::MoveList;
 
-// A position of a path, and its legal moves once they are listed.
-#[derive(Clone, Copy)]
-pub(crate) struct Level {
+/// A position of a path, and its legal moves once they are listed.
+#[derive(Drop)]
+pub struct Level {
     pub(crate) problem: Problem,
     pub(crate) list: Option<MoveList>,
     ghost right: { keeps list (legal_moves problem.position.diagram) ≡ true },

@@ -2,7 +2,8 @@
 
 ghost use Rattle.chess.specs.Worked.{Worked};
 
-mod chess_game;
+use game::Played;
+
 mod coding;
 mod level;
 mod levels;
@@ -12,13 +13,15 @@ mod problem;
 mod problems;
 mod texts;
 
-pub use chess_game::Chess;
 pub use coding::codes_tell;
+pub use level::Level;
+pub use parts::current;
 pub use problem::Problem;
 
-// Worked diagrams, of the definitions.
-pub fn diagrams_stand() -> u8
+/// A game of chess: a path of positions with their moves.
+pub type Chess = Played<Level>;
+
+/// Worked diagrams, of the definitions.
+pub fn diagrams_stand()
     ensures { Worked }
-{
-    0
-}
+{}

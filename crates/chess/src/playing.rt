@@ -1,43 +1,24 @@
-ghost use Rattle.std.specs.Prelude.{◌≡◌, ℕ, ◌<◌, ◌≤◌, Bool, true, false, List, [], ◌∷◌, refl};
-ghost use Rattle.game.specs.Paths.{before};
-ghost use Rattle.chess.specs.Positions.{IsTree, tree_of, level_tree, earlier_trees, fresh_tree};
+ghost use Rattle.std.specs.Prelude.{◌≡◌, refl};
+ghost use Rattle.chess.specs.Positions.{IsTree, level_tree, fresh_tree};
 ghost use Rattle.chess.specs.Setting.{reading_of};
 ghost use Rattle.chess.specs.Laws.{chess_rules_hold};
 ghost use Rattle.chess.specs.Grown.{keeps_of};
 
-use crate::chess_game::Chess;
-use crate::level::Level;
 use crate::problem::Problem;
-use game::{Decline, Game, Path, SetDecline, State};
+use crate::{Level, texts};
+use game::{Position, SetDecline, State};
 
-impl Chess {
-    // A path of one position, with its moves listed.
-    fn at(problem: Problem) -> Chess
-        ensures at { result.path.current.problem ≡ problem }
-        ensures alone { before result.path ≡ [] }
-    {
-        Chess {
-            path: Path::new(Level::new(problem).prepared()),
-        }
-    }
+/// A fresh game's position, its moves not listed yet.
+impl Default for Level {
+    ghost is_default = { λ l. level_tree l ≡ fresh_tree };
 
-    // Lists the moves of the current position, unless they are listed.
-    fn prepare(&mut self)
-        ensures at { self.new.path.current.problem ≡ self.old.path.current.problem }
-        ensures kept { before self.new.path ≡ before self.old.path }
-    {
-        let current = self.path.current();
-        if current.list.is_none() {
-            let prepared = current.prepared();
-            self.path.renew(prepared);
-        }
+    fn default() -> Self {
+        Level::new(Problem::fresh())
     }
 }
 
-impl Game for Chess {
-    ghost current = { λ g. level_tree g.path.current };
-
-    ghost earlier = { λ g. earlier_trees g.path };
+impl Position for Level {
+    ghost tree = { level_tree };
 
     ghost start = { fresh_tree };
 
@@ -51,60 +32,77 @@ impl Game for Chess {
 
     ghost lawful = { chess_rules_hold };
 
-    ghost within = { λ g.
-        let p = g.path.current.problem in
+    ghost within = { λ l.
+        let p = l.problem in
         record { attacker = p.attacker; plies = p.plies; diagram = p.position.diagram; few = p.short; lawful = keeps_of p; is = refl } };
 
     fn fresh() -> Self {
-        Chess::at(Problem::fresh())
+        let mut level = Level::default();
+        level.prepare();
+        level
     }
 
-    fn set(&mut self, text: &[u8], aim: u32) -> Result<(), SetDecline> {
-        let problem = Problem::read(text, aim)?;
-        *self = Chess::at(problem);
-        Ok(())
+    fn read(text: &[u8], aim: u32) -> Result<Self, SetDecline> {
+        let mut level = Level::new(Problem::read(text, aim)?);
+        level.prepare();
+        Ok(level)
     }
+
+    // Here and below the list is lent where it is kept and made where it is not: no reference can stand for both.
 
     fn state(&self) -> State {
-        self.path.current().state()
-    }
-
-    fn count(&self) -> usize {
-        self.path.current().count()
-    }
-
-    fn rank(&self) -> usize {
-        self.path.current().problem.plies as usize
-    }
-
-    fn code(&self) -> [u64; 5] {
-        self.path.current().problem.code()
-    }
-
-    fn text(&self, i: usize) -> Option<[u8; 5]> {
-        self.path.current().text(i)
-    }
-
-    fn find(&self, text: &[u8; 5]) -> Option<usize> {
-        self.path.current().find(text)
-    }
-
-    fn play(&mut self, i: usize) -> Result<(), Decline> {
-        self.prepare();
-        match self.path.current().after(i) {
-            None => Err(Decline::MoveNumber),
-            Some(next) => {
-                self.path.advance(Level::new(next));
-                Ok(())
-            }
+        match &self.list {
+            Some(list) => self.problem.standing(list.len() == 0),
+            None => self.problem.state(),
         }
     }
 
-    fn take_back(&mut self) -> Result<(), Decline> {
-        if self.path.retreat() {
-            Ok(())
-        } else {
-            Err(Decline::TakeBack)
+    // None where no ply is left.
+    fn count(&self) -> usize {
+        if self.problem.plies == 0 {
+            return 0;
+        }
+        match &self.list {
+            Some(list) => list.len(),
+            None => self.problem.position.moves().len(),
+        }
+    }
+
+    // The plies left.
+    fn rank(&self) -> usize {
+        self.problem.plies as usize
+    }
+
+    fn code(&self) -> [u64; 5] {
+        self.problem.code()
+    }
+
+    fn text(&self, i: usize) -> Option<[u8; 5]> {
+        let step = self.pick(i)?;
+        Some(texts::text_of(step))
+    }
+
+    // The moves are listed once, and not for each text.
+    fn find(&self, text: &[u8; 5]) -> Option<usize> {
+        if self.problem.plies == 0 {
+            return None;
+        }
+        match &self.list {
+            Some(list) => texts::find(list, text),
+            None => texts::find(&self.problem.position.moves(), text),
+        }
+    }
+
+    fn after(&self, i: usize) -> Option<Self> {
+        let step = self.pick(i)?;
+        Some(Level::new(self.problem.moved(step)))
+    }
+
+    // Lists the moves, unless they are listed.
+    #[tactic(auto, using(crate::proofs::Same::kept_from))]
+    fn prepare(&mut self) {
+        if self.list.is_none() {
+            self.list = Some(self.problem.position.moves());
         }
     }
 }

@@ -3,7 +3,7 @@ ghost use Rattle.std.specs.Prelude.{◌≤◌};
 use chess_attacks::Side;
 use chess_rules::Position;
 
-// A chess position, the side that is to mate, and the plies left.
+/// A chess position, the side that is to mate, and the plies left, at most 13.
 #[derive(Clone, Copy)]
 pub struct Problem {
     pub(crate) position: Position,

@@ -16,7 +16,7 @@ use chess_rules::Position;
 use game::{Decline, SetDecline, State};
 
 impl Problem {
-    // `4k3/8/8/8/8/8/8/4K3 w - -`, with one ply left.
+    /// `4k3/8/8/8/8/8/8/4K3 w - -`, with one ply left.
     pub(crate) fn fresh() -> Problem
         ensures at { tree_of result ≡ fresh_tree }
         ensures plies { result.plies ≡ 1 }
@@ -42,7 +42,7 @@ impl Problem {
         }
     }
 
-    // The problem of a text: the side to move is to mate in `aim` moves, 1 to 7.
+    /// The problem of a text: the side to move is to mate in `aim` moves, 1 to 7.
     pub fn read(text: &[u8], aim: u32) -> Result<Problem, SetDecline>
         ensures exact { MatchResult result
             (λ p. reading_of text.now aim ≡ position (tree_of p))
@@ -52,34 +52,18 @@ impl Problem {
             (λ e. Refuses text.now aim e.cause e.place) }
     {
         if aim < 1 || aim > 7 {
-            return Err(SetDecline {
-                cause: Decline::Aim,
-                place: 0,
-            });
+            return Err(Decline::Aim.into());
         }
-        let diagram = match chess_text::read(text) {
-            Ok(diagram) => diagram,
-            Err(place) => {
-                return Err(SetDecline {
-                    cause: Decline::Form,
-                    place,
-                });
-            }
-        };
-        match Position::new(diagram) {
-            None => Err(SetDecline {
-                cause: Decline::Unlawful,
-                place: 0,
-            }),
-            Some(position) => Ok(Problem {
-                position,
-                attacker: position.diagram.mover,
-                plies: (2 * aim - 1) as u8,
-            }),
-        }
+        let diagram = chess_text::read(text).map_err(SetDecline::at)?;
+        let position = Position::new(diagram).ok_or(Decline::Unlawful)?;
+        Ok(Problem {
+            position,
+            attacker: position.diagram.mover,
+            plies: (2 * aim - 1) as u8,
+        })
     }
 
-    // The state, from whether the side to move has no legal move.
+    /// The state, from whether the side to move has no legal move.
     pub(crate) fn standing(&self, stuck: bool) -> State
         ensures { result ≡ standing (same_side self.now.position.diagram.mover self.now.attacker) stuck
             (is_in_check self.now.position.diagram) self.now.plies }
@@ -115,7 +99,7 @@ impl Problem {
         coding::code(self.attacker, self.plies, &self.position.diagram)
     }
 
-    // The position after one of its moves.
+    /// The position after one of its moves.
     pub(crate) fn moved(&self, step: Move) -> Problem
         requires { (i : ℕ) × (Some step ≡ slice_get (choices_of self.now) i) }
         ensures diagram { result.position.diagram ≡ played self.now.position.diagram step }

@@ -1,4 +1,5 @@
 pub mod Tree
+pub mod States
 pub mod Declines
 pub mod Rules
 pub mod Paths

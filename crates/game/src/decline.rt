@@ -1,54 +1,64 @@
 ghost use Rattle.std.specs.Prelude.{◌≡◌};
 ghost use Rattle.game.specs.Declines.{number};
+ghost use Rattle.game.specs.declared.decline.Decline.TheVariants.{Form};
 
-// Why a call is declined, in the order in which the causes are checked.
+/// Why a call is declined, in the order in which the causes are checked. Each has the number by which it is known.
 #[derive(Clone, Copy, PartialEq, Eq, Debug)]
 pub enum Decline {
-    // the budget is above 99,999,999
-    Budget,
-    // fewer than 6,144 pair records are lent
-    Records,
-    // the solution buffer's length is no multiple of 8, or over 32,768
-    Buffer,
-    // a solution is wanted where the attacker is not to move
-    NotAttacker,
-    // the move number is not below the count of moves
-    MoveNumber,
-    // the path has one position, so none can be taken back
-    TakeBack,
-    // the aim is not one of the game's
-    Aim,
-    // the text departs from its form
-    Form,
-    // the chess diagram breaks a rule of positions
-    Unlawful,
-    // the Othello position has too many empty squares
-    Empties,
+    /// The budget is above 99,999,999.
+    Budget = 1,
+    /// Fewer than 6,144 pair records are lent.
+    Records = 2,
+    /// The solution buffer's length is no multiple of 8, or over 32,768.
+    Buffer = 3,
+    /// A solution is wanted where the attacker is not to move.
+    NotAttacker = 4,
+    /// The move number is not below the count of moves.
+    MoveNumber = 5,
+    /// The path has one position, so none can be taken back.
+    TakeBack = 6,
+    /// The aim is not one of the game's.
+    Aim = 7,
+    /// The text departs from its form.
+    Form = 8,
+    /// The chess diagram breaks a rule of positions.
+    Unlawful = 9,
+    /// The Othello position has too many empty squares.
+    Empties = 10,
 }
 
 impl Decline {
-    // The number by which the cause is known.
+    /// The number by which the cause is known.
     pub fn number(self) -> u8
         ensures { result ≡ number self }
     {
-        match self {
-            Decline::Budget => 1,
-            Decline::Records => 2,
-            Decline::Buffer => 3,
-            Decline::NotAttacker => 4,
-            Decline::MoveNumber => 5,
-            Decline::TakeBack => 6,
-            Decline::Aim => 7,
-            Decline::Form => 8,
-            Decline::Unlawful => 9,
-            Decline::Empties => 10,
-        }
+        self as u8
     }
 }
 
-// Why a text is not set up: the cause, and the place in the text (0 but for a departure from the form).
+/// Why a text is not set up: the cause, and the place in the text, which is 0 but for a departure from the form.
 #[derive(Clone, Copy, PartialEq, Eq, Debug)]
 pub struct SetDecline {
     pub cause: Decline,
     pub place: usize,
+}
+
+impl SetDecline {
+    /// The text departs from its form at a place.
+    pub fn at(place: usize) -> SetDecline
+        ensures { result ≡ record { cause = Form; place = place } }
+    {
+        SetDecline {
+            cause: Decline::Form,
+            place,
+        }
+    }
+}
+
+impl From<Decline> for SetDecline {
+    ghost from_gives = { λ c r. r ≡ record { cause = c; place = 0 } };
+
+    fn from(cause: Decline) -> SetDecline {
+        SetDecline { cause, place: 0 }
+    }
 }

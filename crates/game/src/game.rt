@@ -5,7 +5,7 @@ ghost use Rattle.game.specs.Rules.{Rules};
 
 use crate::{Decline, SetDecline, State};
 
-// A game: a path of positions, the first set up and the last current. Questions change nothing.
+/// A game: a path of positions, the first set up and the last current. Questions change nothing.
 pub trait Game: Sized {
     // the path: the current position, and the earlier ones, the latest first
     ghost current: { Self → Tree };
@@ -24,12 +24,12 @@ pub trait Game: Sized {
     // what a text says under an aim
     ghost reading: { List ℕ → ℕ → Reading };
 
-    // A path of one position, the same for every fresh game.
+    /// A path of one position, the same for every fresh game.
     fn fresh() -> Self
         ensures at { current result ≡ start }
         ensures alone { earlier result ≡ [] };
 
-    // Sets up what a text says under an aim: it is then the whole path. A refusal leaves the path.
+    /// Sets up what a text says under an aim: it is then the whole path. A refusal leaves the path.
     fn set(&mut self, text: &[u8], aim: u32) -> Result<(), SetDecline>
         ensures { MatchResult result
             (λ _. (reading text.now aim ≡ position (current self.new))
@@ -38,32 +38,34 @@ pub trait Game: Sized {
             × (current self.new ≡ current self.old)
             × (earlier self.new ≡ earlier self.old)) };
 
+    /// Who is to move, or how the game has ended.
     fn state(&self) -> State
         ensures { result ≡ state (current self.now) };
 
-    // How many moves there are: they are numbered from 0.
+    /// How many moves there are: they are numbered from 0.
     fn count(&self) -> usize
         ensures { result ≡ length (next (current self.now)) };
 
-    // A bound on the moves that can still be played one after the other.
+    /// A bound on the moves that can still be played one after the other.
     fn rank(&self) -> usize
         ensures { result ≡ rank (current self.now) };
 
+    /// The code of the current position: five words that no other position of the game has.
     fn code(&self) -> [u64; 5]
         ensures { result ≡ code (current self.now) };
 
-    // The text of a move: none where there is no move of that number.
+    /// The text of a move: none where there is no move of that number.
     fn text(&self, i: usize) -> Option<[u8; 5]>
         ensures { result ≡ slice_get (words (current self.now)) i };
 
-    // The number of the move that has the text: none where no move has it.
+    /// The number of the move that has the text: none where no move has it.
     fn find(&self, text: &[u8; 5]) -> Option<usize>
         ensures { MatchOption result
             ((i : ℕ) → i < length (words (current self.now)) → slice_index_or (words (current self.now)) i [] ≢ text.now)
             (λ i. (i < length (words (current self.now)))
             × (slice_index_or (words (current self.now)) i [] ≡ text.now)) };
 
-    // Plays a move: declined exactly where there is no move of that number, and the path stays.
+    /// Plays a move: declined exactly where there is no move of that number, and the path stays.
     fn play(&mut self, i: usize) -> Result<(), Decline>
         ensures { MatchResult result
             (λ _. (i < length (next (current self.old)))
@@ -74,7 +76,7 @@ pub trait Game: Sized {
             × (earlier self.new ≡ earlier self.old)
             × (e ≡ Decline.MoveNumber)) };
 
-    // Takes the last move back: declined exactly where the path has one position, and the path stays.
+    /// Takes the last move back: declined exactly where the path has one position, and the path stays.
     fn take_back(&mut self) -> Result<(), Decline>
         ensures { MatchResult result
             (λ _. earlier self.old ≡ current self.new ∷ earlier self.new)

@@ -4,11 +4,16 @@ mod decline;
 mod game;
 mod path;
 mod paths;
+mod played;
+mod playing;
+mod position;
 mod same;
 mod state;
 
 pub use decline::{Decline, SetDecline};
 pub use game::Game;
 pub use path::Path;
+pub use played::Played;
+pub use position::Position;
 pub use same::{codes_tell, same_position};
 pub use state::State;

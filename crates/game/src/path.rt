@@ -1,11 +1,8 @@
-ghost use Rattle.std.specs.Prelude.{◌≡◌, ◌≤◌, length};
+use arrayvec::ArrayVec;
 
-// A path of positions: the current one, and the earlier ones, the first `played` of an array.
+/// A path of at most 33 positions: the current one, and the earlier ones, the latest last.
 #[derive(Drop)]
 pub struct Path<P> {
     pub(crate) current: P,
-    pub(crate) earlier: [P; 32],
-    pub(crate) played: usize,
-    ghost whole: { length earlier ≡ 32 },
-    ghost room: { played ≤ 32 },
+    pub(crate) earlier: ArrayVec<P, 32>,
 }

@@ -1,29 +1,30 @@
-ghost use Rattle.std.specs.Prelude.{◌≡◌, List, []};
-ghost use Rattle.game.specs.Paths.{before, Advanced, Retreated};
+ghost use Rattle.std.specs.Prelude.{◌≡◌, ◌<◌, ◌≤◌, List, [], ◌∷◌, length, MatchOption, MatchResult};
+ghost use Rattle.game.specs.Paths.{before};
 
 use crate::Path;
+use arrayvec::ArrayVec;
+use std::mem;
 
-impl<P: Copy> Path<P> {
-    // A path of one position.
+impl<P: Default + Drop> Path<P> {
+    /// A path of one position.
     pub fn new(current: P) -> Path<P>
         ensures at { result.current ≡ current }
         ensures alone { before result ≡ [] }
     {
         Path {
             current,
-            earlier: [current; 32],
-            played: 0,
+            earlier: ArrayVec::new(),
         }
     }
 
-    // The current position.
+    /// The current position.
     pub fn current(&self) -> &P
         ensures { result.now ≡ self.now.current }
     {
         &self.current
     }
 
-    // Puts another value in the place of the current position.
+    /// Puts another value in the place of the current position.
     pub fn renew(&mut self, current: P)
         ensures at { self.new.current ≡ current }
         ensures kept { before self.new ≡ before self.old }
@@ -31,28 +32,34 @@ impl<P: Copy> Path<P> {
         self.current = current;
     }
 
-    // One position more, and whether there was room for it: a path has at most 33.
-    pub fn advance(&mut self, next: P) -> bool
-        ensures { Advanced result self.old next self.new }
+    /// One position more, which is then the current one. It is handed back where the path has 33 positions already.
+    pub fn advance(&mut self, next: P) -> Result<(), P>
+        ensures { MatchResult result
+            (λ _. (length (before self.old) < 32)
+            × (self.new.current ≡ next)
+            × (before self.new ≡ self.old.current ∷ before self.old))
+            (λ p. (32 ≤ length (before self.old))
+            × (self.new.current ≡ self.old.current)
+            × (before self.new ≡ before self.old)
+            × (p ≡ next)) }
     {
-        if self.played >= 32 {
-            return false;
+        if self.earlier.is_full() {
+            return Err(next);
         }
-        self.earlier[self.played] = self.current;
-        self.played += 1;
-        self.current = next;
-        true
+        self.earlier.push(mem::replace(&mut self.current, next));
+        Ok(())
     }
 
-    // The last position leaves, and whether there was an earlier one to go back to.
-    pub fn retreat(&mut self) -> bool
-        ensures { Retreated result self.old self.new }
+    /// The current position leaves, and the latest earlier one is current again. None where the path has one position, which stays.
+    pub fn retreat(&mut self) -> Option<P>
+        ensures { MatchOption result
+            ((before self.old ≡ [])
+            × (self.new.current ≡ self.old.current)
+            × (before self.new ≡ []))
+            (λ p. (before self.old ≡ self.new.current ∷ before self.new)
+            × (p ≡ self.old.current)) }
     {
-        if self.played == 0 {
-            return false;
-        }
-        self.played -= 1;
-        self.current = self.earlier[self.played];
-        true
+        let latest = self.earlier.pop()?;
+        Some(mem::replace(&mut self.current, latest))
     }
 }

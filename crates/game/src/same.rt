@@ -3,14 +3,12 @@ ghost use Rattle.game.specs.Rules.{CodesTell};
 
 use crate::Game;
 
-// In every game, positions with equal codes are the same tree.
-pub fn codes_tell<G: Game>() -> u8
+/// In every game, positions with equal codes are the same tree.
+pub fn codes_tell<G: Game>()
     ensures { CodesTell G.Game.positions }
-{
-    0
-}
+{}
 
-// Whether two games stand at the same position, as their codes tell.
+/// Whether two games stand at the same position, as their codes tell.
 pub fn same_position<G: Game>(a: &G, b: &G) -> bool
     ensures { Decides result (G.Game.current a.now ≡ G.Game.current b.now) }
 {

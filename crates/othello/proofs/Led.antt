@@ -7,15 +7,15 @@ use Rattle.othello_rules.specs.Diagrams.{placements, placeable, placed, passed, 
 use Rattle.othello_rules.specs.declared.diagram.Diagram.{Diagram}
 use Rattle.othello_rules.specs.declared.side.Side.{Side}
 use Rattle.othello_rules.specs.declared.turn.Turn.TheVariants.{Place, Pass}
-use Rattle.othello.specs.Endings.{rank_of, tree}
+use Rattle.othello.specs.Endings.{tree}
 use Rattle.othello.specs.Positions.{tree_of}
 use Rattle.othello.specs.declared.position.Position.{Position}
-use Rattle.othello.specs.Grown.{all_placeable, placed_rank, passed_rank}
+use Rattle.othello.specs.Grown.{all_placeable}
 use Rattle.othello.specs.Listed.{count_place, count_turn, next_there, next_turn}
 
 -- the move i of p leads to q
 abbrev pub Leads : Position → ℕ → Position → Type 0
-Leads p i q = (i < length (next (tree_of p))) × (tree_of q ≡ get_or (next (tree_of p)) i nowhere) × (rank_of q.diagram < rank_of p.diagram)
+Leads p i q = (i < length (next (tree_of p))) × (tree_of q ≡ get_or (next (tree_of p)) i nowhere)
 
 -- q has the attacker and the aim of p, and the diagram d
 abbrev pub Same : Position → Diagram → Position → Type 0
@@ -51,16 +51,11 @@ module _ (p : Position) (i : ℕ) where
         same_tree p q (placed p.diagram s) (c.1, c.2, c.3)
             ∙ ap (λ (n : ℕ). tree p.attacker p.aim (placed p.diagram n)) at
             ∙ next_there p.attacker p.aim p.diagram e i there,
-        lower q c.1,
       )
-        where
-          lower : (q : Position) → q.diagram ≡ placed p.diagram s → rank_of q.diagram < rank_of p.diagram
-          lower q m = omega (arith, ap rank_of m, placed_rank p.diagram s may.0 may.1)
 
   pub led_pass : (q : Position) → Pass ≡ turn p.diagram → i ≡ 0 → Same p (passed p.diagram) q → Leads p i q
   led_pass q e z c = (
     omega (arith, count_turn p.attacker p.aim p.diagram Pass e),
     same_tree p q (passed p.diagram) c
         ∙ sym (ap (λ (n : ℕ). get_or (next (tree_of p)) n nowhere) z ∙ ap (λ (ts : List Tree). get_or ts 0 nowhere) (next_turn p.attacker p.aim p.diagram Pass e)),
-    omega (arith, ap rank_of c.0, passed_rank p.diagram (sym e)),
   )

@@ -1,2 +1,1 @@
 pub mod Led
-pub mod Played

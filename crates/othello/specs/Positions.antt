@@ -1,14 +1,12 @@
--- Positions of an ending as trees, and a path of them.
-use Rattle.std.specs.Prelude.{◌≡◌, ℕ, ◌-◌, ◌^◌, ◌≤◌, List, map}
+-- Positions of an ending as trees.
+use Rattle.std.specs.Prelude.{◌≡◌, ℕ, ◌-◌, ◌^◌, ◌≤◌}
 use Rattle.game.specs.Tree.{Tree}
-use Rattle.game.specs.Paths.{before}
-use Rattle.game.specs.declared.path.Path.{Path}
 use Rattle.othello_rules.specs.Diagrams.{empties}
 use Rattle.othello_rules.specs.Texts.{Sound}
 use Rattle.othello_rules.specs.declared.diagram.Diagram.{Diagram}
 use Rattle.othello_rules.specs.declared.side.Side.{Side}
 use Rattle.othello_rules.specs.declared.side.Side.TheVariants.{X}
-use Rattle.othello.specs.Endings.{rank_of, tree}
+use Rattle.othello.specs.Endings.{tree}
 use Rattle.othello.specs.declared.position.Position.{Position}
 
 abbrev pub tree_of : Position → Tree
@@ -30,13 +28,3 @@ pub record IsEnding (t : Tree) : Type 0 where
   pub sound : Sound diagram
   pub few : empties diagram ≤ 14
   pub is : t ≡ tree attacker aim diagram
-
--- the path as trees, and the rank of one of its positions
-abbrev pub current_of : Path Position → Tree
-current_of p = tree_of p.current
-
-abbrev pub earlier_of : Path Position → List Tree
-earlier_of p = map tree_of (before p)
-
-abbrev pub position_rank : Position → ℕ
-position_rank p = rank_of p.diagram

@@ -5,47 +5,38 @@ use board::Square;
 use game::State;
 use othello_rules::{Side, Turn};
 
-// The side to move, as the attacker sees it.
+/// The side to move, as the attacker sees it.
 pub(crate) fn to_move(attacker: Side, mover: Side) -> State
     ensures { result ≡ to_move attacker mover }
 {
-    match attacker {
-        Side::X => match mover {
-            Side::X => State::Attacker,
-            Side::O => State::Defender,
-        },
-        Side::O => match mover {
-            Side::X => State::Defender,
-            Side::O => State::Attacker,
-        },
+    if attacker == mover {
+        State::Attacker
+    } else {
+        State::Defender
     }
 }
 
-// The number of a side in a code.
+/// The number of a side in a code.
 pub(crate) fn side_number(side: Side) -> u64
     ensures { result ≡ side_number side }
 {
-    match side {
-        Side::X => 0,
-        Side::O => 1,
-    }
+    side as u64
 }
 
-// The text of a placement: the square's name and three blanks.
+/// The text of a placement: the square's name and three blanks.
 pub(crate) fn square_text(square: Square) -> [u8; 5]
     ensures { result ≡ square_text square.number }
 {
-    let name = square.name();
-    [name[0], name[1], b' ', b' ', b' ']
+    let [file, row] = square.name();
+    [file, row, b' ', b' ', b' ']
 }
 
-// One move more than the empty squares allow, where the mover has to pass.
+/// One move more than the empty squares allow, where the mover has to pass.
 pub(crate) fn due(turn: Turn) -> usize
     ensures { result ≡ due turn }
 {
     match turn {
-        Turn::Place => 0,
+        Turn::Place | Turn::Ended => 0,
         Turn::Pass => 1,
-        Turn::Ended => 0,
     }
 }

@@ -2,8 +2,8 @@
 
 ghost use Rattle.othello.specs.Endings.{CodesPin, Grows};
 
-mod asking;
-mod ending;
+use game::Played;
+
 mod helpers;
 mod moving;
 mod parts;
@@ -11,20 +11,19 @@ mod playing;
 mod position;
 mod setting;
 
-pub use ending::Othello;
+pub use parts::current;
 pub use position::Position;
 pub use setting::set_up;
 
-// The tree of a position is finite: its root, and below it the trees of the positions that its moves lead to.
-pub fn tree_grows() -> u8
-    ensures { Grows }
-{
-    0
-}
+/// An Othello ending that is played.
+pub type Othello = Played<Position>;
 
-// A code tells everything of a position: the discs, the mover, the attacker and the aim.
-pub fn codes_pin() -> u8
+/// The tree of a position is finite: its root, and below it the trees of the positions that its moves lead to.
+pub fn tree_grows()
+    ensures { Grows }
+{}
+
+/// A code tells everything of a position: the discs, the mover, the attacker and the aim.
+pub fn codes_pin()
     ensures { CodesPin }
-{
-    0
-}
+{}

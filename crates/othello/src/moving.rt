@@ -1,15 +1,12 @@
-ghost use Rattle.std.specs.Prelude.{◌≡◌, ℕ, ◌<◌, ◌≤◌, true, false, length, MatchOption, slice_index_or};
-ghost use Rattle.game.specs.Tree.{nowhere, next};
+ghost use Rattle.std.specs.Prelude.{◌≡◌, true, false, MatchOption};
 ghost use Rattle.othello_rules.specs.Diagrams.{placeable, placed, passed};
-ghost use Rattle.othello.specs.Endings.{rank_of};
-ghost use Rattle.othello.specs.Positions.{tree_of};
+ghost use Rattle.othello.specs.Endings.{reached};
 
 use crate::Position;
 use board::Square;
-use othello_rules::Turn;
 
 impl Position {
-    // The position after a disc of the mover was placed on the square, or none where that is not legal.
+    /// The position after a disc of the mover was placed on the square, or none where that is not legal.
     pub(crate) fn place(&self, square: Square) -> Option<Position>
         ensures { MatchOption result
             (placeable self.now.diagram square.number ≡ false)
@@ -18,17 +15,15 @@ impl Position {
             × (q.attacker ≡ self.now.attacker)
             × (q.aim ≡ self.now.aim)) }
     {
-        match self.diagram.place(square) {
-            Some(diagram) => Some(Position {
-                diagram,
-                attacker: self.attacker,
-                aim: self.aim,
-            }),
-            None => None,
-        }
+        let diagram = self.diagram.place(square)?;
+        Some(Position {
+            diagram,
+            attacker: self.attacker,
+            aim: self.aim,
+        })
     }
 
-    // The position after a pass.
+    /// The position after a pass.
     pub(crate) fn pass(&self) -> Position
         ensures diagram { result.diagram ≡ passed self.now.diagram }
         ensures attacker { result.attacker ≡ self.now.attacker }
@@ -40,24 +35,13 @@ impl Position {
             aim: self.aim,
         }
     }
-}
 
-impl Position {
-    // The position after a move, or none where there are not so many.
-    pub(crate) fn after(&self, i: usize) -> Option<Position>
-        ensures { MatchOption result
-            (length (next (tree_of self.now)) ≤ i)
-            (λ q. (i < length (next (tree_of self.now)))
-            × (tree_of q ≡ slice_index_or (next (tree_of self.now)) i nowhere)
-            × (rank_of q.diagram < rank_of self.now.diagram)) }
+    /// Whether the attacker's discs are at least as many more than the other side's as the aim says.
+    pub(crate) fn reached(&self) -> bool
+        ensures { result ≡ reached self.now.attacker self.now.aim self.now.diagram }
     {
-        match self.diagram.turn() {
-            Turn::Place => match self.diagram.placements().get(i) {
-                Some(square) => self.place(square),
-                None => None,
-            },
-            Turn::Pass => { if i == 0 { Some(self.pass()) } else { None } }
-            Turn::Ended => None,
-        }
+        let own = self.diagram.disc_count(self.attacker);
+        let other = self.diagram.disc_count(self.attacker.opponent());
+        other + self.aim as u32 <= own
     }
 }

@@ -4,20 +4,21 @@ use crate::{Othello, Position};
 use othello_rules::{Diagram, Side};
 
 impl Position {
-    // The discs and the side to move.
+    /// The discs and the side to move.
     pub fn diagram(&self) -> Diagram
         ensures { result ≡ self.now.diagram }
     {
         self.diagram
     }
 
+    /// The side that aims at the margin.
     pub fn attacker(&self) -> Side
         ensures { result ≡ self.now.attacker }
     {
         self.attacker
     }
 
-    // The margin that the attacker aims at.
+    /// The margin that the attacker aims at, 0 to 64 discs.
     pub fn aim(&self) -> u8
         ensures { result ≡ self.now.aim }
     {
@@ -25,11 +26,9 @@ impl Position {
     }
 }
 
-impl Othello {
-    // The current position.
-    pub fn position(&self) -> Position
-        ensures { result ≡ self.now.path.current }
-    {
-        *self.path.current()
-    }
+/// The current position of a game.
+pub fn current(game: &Othello) -> Position
+    ensures { result ≡ game.now.path.current }
+{
+    *game.current()
 }

@@ -3,8 +3,8 @@ ghost use Rattle.othello_rules.specs.Diagrams.{empties};
 
 use othello_rules::{Diagram, Side};
 
-// A position of an ending: the diagram, the attacker and the margin aimed at.
-// No square has two discs, and at most 14 squares are empty.
+/// A position of an ending: the diagram, the attacker and the margin aimed at.
+/// No square has two discs, and at most 14 squares are empty.
 #[derive(Clone, Copy)]
 pub struct Position {
     pub(crate) diagram: Diagram,

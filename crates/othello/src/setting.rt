@@ -10,7 +10,7 @@ const LARGEST_AIM: u32 = 64;
 
 const MOST_EMPTIES: u32 = 14;
 
-// The position that a text says under an aim, its mover the attacker, or why it is declined.
+/// The position that a text says under an aim, its mover the attacker, or why it is declined.
 pub fn set_up(text: &[u8], aim: u32) -> Result<Position, SetDecline>
     ensures exact { MatchResult result
         (λ p. reading text.now aim ≡ position (tree_of p))
@@ -20,28 +20,15 @@ pub fn set_up(text: &[u8], aim: u32) -> Result<Position, SetDecline>
         (λ e. Declined text.now aim e.cause e.place) }
 {
     if aim > LARGEST_AIM {
-        return Err(SetDecline {
-            cause: Decline::Aim,
-            place: 0,
-        });
+        return Err(Decline::Aim.into());
     }
-    match othello_rules::read(text) {
-        Ok(diagram) => {
-            if diagram.empties() > MOST_EMPTIES {
-                return Err(SetDecline {
-                    cause: Decline::Empties,
-                    place: 0,
-                });
-            }
-            Ok(Position {
-                diagram,
-                attacker: diagram.mover,
-                aim: aim as u8,
-            })
-        }
-        Err(place) => Err(SetDecline {
-            cause: Decline::Form,
-            place,
-        }),
+    let diagram = othello_rules::read(text).map_err(SetDecline::at)?;
+    if diagram.empties() > MOST_EMPTIES {
+        return Err(Decline::Empties.into());
     }
+    Ok(Position {
+        diagram,
+        attacker: diagram.mover,
+        aim: aim as u8,
+    })
 }

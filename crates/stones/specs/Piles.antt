@@ -1,11 +1,9 @@
 -- A pile of stones as a game: each move takes one or two, and whoever takes the last wins.
-use Rattle.std.specs.Prelude.{◌≡◌, ℕ, zero, suc, ◌-◌, ◌≤◌, Bool, true, false, cond, not, ◌&&◌, List, [], ◌∷◌, map, codes, ◌==◌, nat_le}
+use Rattle.std.specs.Prelude.{◌≡◌, ℕ, zero, suc, ◌-◌, ◌≤◌, Bool, true, false, cond, not, ◌&&◌, List, [], ◌∷◌, codes, ◌==◌, nat_le}
 use Rattle.game.specs.Tree.{Tree, Reading, node, none, move, position, refused}
-use Rattle.game.specs.Paths.{before}
 use Rattle.game.specs.declared.state.State.{State}
 use Rattle.game.specs.declared.state.State.TheVariants.{Won, NotWon, Attacker, Defender}
 use Rattle.game.specs.declared.decline.Decline.TheVariants.{Aim, Form}
-use Rattle.game.specs.declared.path.Path.{Path}
 use Rattle.stones.specs.declared.pile.Pile.{Pile}
 
 -- the side to move, the attacker where b is true; with no stone left the other side has won
@@ -53,13 +51,3 @@ pile_of (d ∷ e ∷ x) = cond (nat_le 48 d && nat_le d 52) (refused Form 1) (re
 
 abbrev pub reading : List ℕ → ℕ → Reading
 reading x aim = cond (aim == 0) (pile_of x) (refused Aim 0)
-
--- the path as trees
-abbrev pub current_of : Path Pile → Tree
-current_of p = tree_of p.current
-
-abbrev pub earlier_of : Path Pile → List Tree
-earlier_of p = map tree_of (before p)
-
-abbrev pub stones_left : Pile → ℕ
-stones_left p = p.left

@@ -1,8 +1,11 @@
 #![tactic(auto)]
 
+use game::Played;
+
 mod pile;
 mod play;
-mod stones;
 
 pub use pile::Pile;
-pub use stones::Stones;
+
+/// A game with a pile of stones: each move takes one or two, and whoever takes the last wins.
+pub type Stones = Played<Pile>;

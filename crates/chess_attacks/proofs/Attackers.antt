@@ -11,7 +11,8 @@ use Rattle.chess_attacks.specs.declared.men.Kind.TheVariants.{King, Queen, Rook,
 use Rattle.chess_attacks.specs.declared.men.Side.{Side}
 use Rattle.chess_attacks.specs.declared.men.Side.TheVariants.{White, Black}
 use Rattle.chess_attacks.specs.Men.{Squares, on, given, same_side, is_knight}
-use Rattle.chess_attacks.specs.Ranges.{range_of, ranges, straight, ahead, opposite}
+use Rattle.chess_attacks.specs.Ranges.{range_of, ranges, straight, ahead}
+use Rattle.board.specs.Squares.{opposite}
 use Rattle.chess_attacks.specs.Lists.{line, lines, leaps, leap, single, commands, any, attacks, attackers, some, attacked}
 use Rattle.chess_attacks.specs.Look.{struck, leapt, knight_of, line_attack, leap_attack}
 use Rattle.chess_attacks.proofs.Back.{Leap, turned, leap-back}

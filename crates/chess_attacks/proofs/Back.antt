@@ -5,7 +5,7 @@ use Rattle.std.proofs.lemmas.Bool.Decides.{Decides-below_and}
 use Rattle.board.specs.declared.direction.Direction.{Direction}
 use Rattle.board.specs.declared.direction.Direction.TheVariants.{North, NorthEast, East, SouthEast, South, SouthWest, West, NorthWest}
 use Rattle.chess_attacks.specs.Men.{given}
-use Rattle.chess_attacks.specs.Ranges.{opposite}
+use Rattle.board.specs.Squares.{opposite}
 use Rattle.chess_attacks.specs.Lists.{beside, leap}
 
 abbrev pub all : ℕ → (ℕ → Bool) → Bool

@@ -15,7 +15,7 @@ use Rattle.chess_attacks.specs.Ranges.{range_of}
 use Rattle.chess_attacks.specs.Commands.{Along, gap, Commands, Attacked, Checked}
 use Rattle.chess_attacks.specs.Commands.Commands.{by_line, by_leap}
 use Rattle.chess_attacks.specs.Lists.{beside, line, lines, leaps, leap, single, commands, attacks, attacked, king_hit, checked}
-use Rattle.chess_attacks.proofs.Sides.{side-true, side_same, king_is, knight_kind}
+use Rattle.chess_attacks.proofs.Sides.{side-true, side_same, king_is, kind_same}
 use Rattle.chess_attacks.proofs.Back.{at_all, leap-back}
 use Rattle.chess_attacks.proofs.Onward.{away-none, beside_away, beside_edge}
 use Rattle.chess_attacks.proofs.Reach.{Way, line_way, way_line, way-some}
@@ -140,7 +140,7 @@ module _ (b : Squares) (m : Man) (f : ℕ) (in' : f < 64) (t : ℕ) where
   commands_from : (x : Bool) → is_knight m.kind ≡ x → member t (cond x (leaps f) (lines b m f)) ≡ true → Commands b m f t
   commands_from true k h =
       let l : t < 64 = leap-within f t in' h in
-      by_leap (knight_kind m.kind k) l (eqb-true (gap (file f) (file t) * gap (row f) (row t)) 2 (sym (leap-is f t in' l) ∙ h))
+      by_leap (kind_same m.kind Knight k) l (eqb-true (gap (file f) (file t) * gap (row f) (row t)) 2 (sym (leap-is f t in' l) ∙ h))
   commands_from false k h = by_line (along_from h)
 
   commands_to : (x : Bool) → is_knight m.kind ≡ x → Commands b m f t → member t (cond x (leaps f) (lines b m f)) ≡ true

@@ -1,6 +1,8 @@
 -- What stands in the lists of commanded squares.
-use Rattle.std.proofs.Common.{◌≡◌, ℕ, ◌+◌, ◌<◌, Bool, true, false, ◌||◌, eqb, List, [], ◌∷◌, ◌++◌, Some, None, Decides, Option, refl, ap, ◌∙◌, ⊎_elim, add-one}
-use Rattle.std.proofs.lemmas.Bool.{eqb-true, eq-eqb, or_cases, or_left, or_from, false≢true}
+use Rattle.std.proofs.Common.{◌≡◌, ℕ, zero, suc, ◌+◌, ◌<◌, Bool, true, false, ◌||◌, eqb, List, [], ◌∷◌, ◌++◌, Some, None, Decides, Option, refl, ap, ◌∙◌, ⊎_elim, zero-add, arith}
+use Rattle.std.specs.List.{list_any, range_with_len}
+use Rattle.std.proofs.lemmas.Bool.{eqb-true, eq-eqb, or_cases, or_left, false≢true}
+use Rattle.std.proofs.lemmas.List.Folds.{list_any-append}
 use Rattle.std.proofs.lemmas.Bool.Decides.{Decides-below_or}
 use Rattle.board.specs.Masks.{member}
 use Rattle.chess_attacks.specs.declared.men.Man.{Man}
@@ -38,5 +40,21 @@ single-member s o e = ap (λ o. member s (single o)) e ∙ or_left (eqb s s) fal
 pub decides-any : (n : ℕ) (p : ℕ → Bool) → Decides (any n p) ((k : ℕ) × (k < n) × (p k ≡ true))
 decides-any n p = Decides-below_or p (λ k. p k ≡ true) (λ n. any n p) (λ k. (λ e. e, λ e. e)) refl (λ n. refl) n
 
-pub any-more : (p : ℕ → Bool) (n : ℕ) → any n p ≡ false → p n ≡ false → any (n + 1) p ≡ false
-any-more p n h k = rw add-one (or_from (p n) (any n p) k h)
+-- one more number, and the same test over a list of numbers
+range_more : (n a : ℕ) → range_with_len a (suc n) ≡ range_with_len a n ++ (a + n) ∷ []
+range_more zero a = let e : a ≡ a + 0 = omega arith in ap (λ x. x ∷ []) e
+range_more (suc n) a =
+    let e : a + 1 + n ≡ a + suc n = omega arith in
+    ap (λ xs. a ∷ xs) (range_more n (a + 1) ∙ ap (λ x. range_with_len (a + 1) n ++ x ∷ []) e)
+
+turned : (x y : Bool) → (x || (y || false)) ≡ (y || x)
+turned true true = refl
+turned true false = refl
+turned false true = refl
+turned false false = refl
+
+pub any_listed : (p : ℕ → Bool) (n : ℕ) → list_any p (range_with_len 0 n) ≡ any n p
+any_listed p zero = refl
+any_listed p (suc n) =
+    ap (list_any p) (range_more n 0) ∙ list_any-append p (range_with_len 0 n) ((0 + n) ∷ [])
+    ∙ turned (list_any p (range_with_len 0 n)) (p (0 + n)) ∙ (λ i. p (zero-add n i) || any_listed p n i)

@@ -6,7 +6,8 @@ use Rattle.chess_attacks.specs.declared.men.Side.{Side}
 use Rattle.board.specs.declared.direction.Direction.{Direction}
 use Rattle.board.specs.Masks.{member}
 use Rattle.chess_attacks.specs.Men.{Squares, on, given, same_side}
-use Rattle.chess_attacks.specs.Ranges.{range_of, opposite}
+use Rattle.chess_attacks.specs.Ranges.{range_of}
+use Rattle.board.specs.Squares.{opposite}
 use Rattle.chess_attacks.specs.Lists.{beside, line}
 use Rattle.chess_attacks.specs.Look.{struck}
 use Rattle.chess_attacks.proofs.Back.{back}

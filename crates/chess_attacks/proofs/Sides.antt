@@ -1,12 +1,12 @@
 -- Two sides are the same where their test says so.
-use Rattle.std.proofs.Common.{◌≡◌, true, false, Some, None, Option, refl, ap}
-use Rattle.std.proofs.lemmas.Bool.{and_parts, false≢true}
+use Rattle.std.proofs.Common.{◌≡◌, ℕ, zero, suc, true, false, Some, None, Option, sym, refl, ap, ◌∙◌}
+use Rattle.std.proofs.lemmas.Bool.{and_parts, eqb-true, false≢true}
 use Rattle.chess_attacks.specs.declared.men.Man.{Man}
 use Rattle.chess_attacks.specs.declared.men.Kind.{Kind}
 use Rattle.chess_attacks.specs.declared.men.Kind.TheVariants.{King, Queen, Rook, Bishop, Knight, Pawn}
 use Rattle.chess_attacks.specs.declared.men.Side.{Side}
 use Rattle.chess_attacks.specs.declared.men.Side.TheVariants.{White, Black}
-use Rattle.chess_attacks.specs.Men.{same_side, other, is_king, is_knight, is_pawn, king_of}
+use Rattle.chess_attacks.specs.Men.{same_side, other, kind_number, same_kind, is_king, is_pawn, king_of}
 
 pub side-true : (a b : Side) → a ≡ b → same_side a b ≡ true
 side-true White White e = refl
@@ -30,33 +30,32 @@ pub other-twice : (a : Side) → other (other a) ≡ a
 other-twice White = refl
 other-twice Black = refl
 
--- a test of a kind tells the kind
-pub king_kind : (k : Kind) → is_king k ≡ true → k ≡ King
-king_kind King h = refl
-king_kind Queen h = absurd (false≢true h)
-king_kind Rook h = absurd (false≢true h)
-king_kind Bishop h = absurd (false≢true h)
-king_kind Knight h = absurd (false≢true h)
-king_kind Pawn h = absurd (false≢true h)
+-- the test of two kinds tells that they are one
+kind_at : ℕ → Kind
+kind_at zero = King
+kind_at (suc zero) = Queen
+kind_at (suc (suc zero)) = Rook
+kind_at (suc (suc (suc zero))) = Bishop
+kind_at (suc (suc (suc (suc zero)))) = Knight
+kind_at (suc (suc (suc (suc (suc n))))) = Pawn
 
-pub knight_kind : (k : Kind) → is_knight k ≡ true → k ≡ Knight
-knight_kind King h = absurd (false≢true h)
-knight_kind Queen h = absurd (false≢true h)
-knight_kind Rook h = absurd (false≢true h)
-knight_kind Bishop h = absurd (false≢true h)
-knight_kind Knight h = refl
-knight_kind Pawn h = absurd (false≢true h)
+kind_back : (k : Kind) → kind_at (kind_number k) ≡ k
+unfolding kind_at
+kind_back King = refl
+kind_back Queen = refl
+kind_back Rook = refl
+kind_back Bishop = refl
+kind_back Knight = refl
+kind_back Pawn = refl
+
+pub kind_same : (k j : Kind) → same_kind k j ≡ true → k ≡ j
+kind_same k j h = sym (kind_back k) ∙ ap kind_at (eqb-true (kind_number k) (kind_number j) h) ∙ kind_back j
 
 pub pawn_kind : (k : Kind) → is_pawn k ≡ true → k ≡ Pawn
-pawn_kind King h = absurd (false≢true h)
-pawn_kind Queen h = absurd (false≢true h)
-pawn_kind Rook h = absurd (false≢true h)
-pawn_kind Bishop h = absurd (false≢true h)
-pawn_kind Knight h = absurd (false≢true h)
-pawn_kind Pawn h = refl
+pawn_kind k = kind_same k Pawn
 
 pub king_is : (a : Side) (o : Option Man) → king_of a o ≡ true → o ≡ Some (record { side = a; kind = King })
 king_is a None h = absurd (false≢true h)
 king_is a (Some m) h =
     let p = and_parts (same_side m.side a) (is_king m.kind) h in
-    ap Some (λ i. record { side = side_same m.side a p.0 i; kind = king_kind m.kind p.1 i })
+    ap Some (λ i. record { side = side_same m.side a p.0 i; kind = kind_same m.kind King p.1 i })

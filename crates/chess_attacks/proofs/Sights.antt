@@ -4,7 +4,8 @@ use Rattle.chess_attacks.specs.declared.men.Man.{Man}
 use Rattle.chess_attacks.specs.declared.men.Side.{Side}
 use Rattle.board.specs.declared.direction.Direction.{Direction}
 use Rattle.chess_attacks.specs.Men.{Squares, on, given, same_side}
-use Rattle.chess_attacks.specs.Ranges.{range_of, opposite}
+use Rattle.chess_attacks.specs.Ranges.{range_of}
+use Rattle.board.specs.Squares.{opposite}
 use Rattle.chess_attacks.specs.Lists.{beside}
 use Rattle.chess_attacks.specs.Look.{struck}
 

@@ -1,9 +1,11 @@
 -- Tests over the eight directions and the eight leaps.
 use Rattle.std.proofs.Common.{◌≡◌, Bool, true, false, ◌||◌, refl, ⊎_elim}
+use Rattle.std.specs.List.{list_any}
 use Rattle.std.proofs.lemmas.Bool.{or_cases}
+use Rattle.board.specs.Squares.{directions}
 use Rattle.board.specs.declared.direction.Direction.{Direction}
 use Rattle.board.specs.declared.direction.Direction.TheVariants.{North, NorthEast, East, SouthEast, South, SouthWest, West, NorthWest}
-use Rattle.chess_attacks.specs.Lists.{eight_ways, eight_leaps}
+use Rattle.chess_attacks.specs.Lists.{eight_ways, eight_leaps, knight_ways}
 use Rattle.chess_attacks.specs.Look.{or}
 use Rattle.chess_attacks.proofs.Back.{Leap}
 use Rattle.chess_attacks.proofs.Back.Leap.{nne, nnw, ene, ese, sse, ssw, wsw, wnw}
@@ -11,6 +13,16 @@ use Rattle.chess_attacks.proofs.Back.Leap.{nne, nnw, ene, ese, sse, ssw, wsw, wn
 or-true : (x : Bool) → (x || true) ≡ true
 or-true true = refl
 or-true false = refl
+
+or-false : (x : Bool) → (x || false) ≡ x
+or-false true = refl
+or-false false = refl
+
+pub ways_listed : (g : Direction → Bool) → list_any g directions ≡ eight_ways or g
+ways_listed g = simp or-false
+
+pub leaps_listed : (g : Direction → Direction → Bool) → list_any (λ (w : Direction × Direction). g w.0 w.1) knight_ways ≡ eight_leaps or g
+leaps_listed g = simp or-false
 
 module _ (g : Direction → Bool) where
   abbrev Way : Type 0
@@ -21,13 +33,13 @@ module _ (g : Direction → Bool) where
 
   pub ways_some : eight_ways or g ≡ true → Way
   ways_some =
-      first_way North _ (first_way NorthEast _ (first_way East _ (first_way SouthEast _ (first_way South _ (first_way SouthWest _
-      (first_way West _ (λ x. (NorthWest, x))))))))
+      first_way East _ (first_way West _ (first_way North _ (first_way South _ (first_way NorthEast _ (first_way NorthWest _
+      (first_way SouthEast _ (λ x. (SouthWest, x))))))))
 
   pub ways_from : (d : Direction) → g d ≡ true → eight_ways or g ≡ true
-  ways_from North h = simp h
+  ways_from North h = simp (h, or-true)
   ways_from NorthEast h = simp (h, or-true)
-  ways_from East h = simp (h, or-true)
+  ways_from East h = simp h
   ways_from SouthEast h = simp (h, or-true)
   ways_from South h = simp (h, or-true)
   ways_from SouthWest h = simp (h, or-true)

@@ -1,4 +1,5 @@
 pub mod Men
+pub mod Letters
 pub mod Ranges
 pub mod Commands
 pub mod Lists

@@ -38,7 +38,13 @@ single (Some t) = t ∷ []
 
 abbrev pub eight_ways : {X : Type 0} → (X → X → X) → (Direction → X) → X
 eight_ways f g =
-    f (g North) (f (g NorthEast) (f (g East) (f (g SouthEast) (f (g South) (f (g SouthWest) (f (g West) (g NorthWest)))))))
+    f (g East) (f (g West) (f (g North) (f (g South) (f (g NorthEast) (f (g NorthWest) (f (g SouthEast) (g SouthWest)))))))
+
+-- the ways of a knight's leap
+abbrev pub knight_ways : List (Direction × Direction)
+knight_ways =
+    (North, NorthEast) ∷ (North, NorthWest) ∷ (East, NorthEast) ∷ (East, SouthEast)
+    ∷ (South, SouthEast) ∷ (South, SouthWest) ∷ (West, SouthWest) ∷ (West, NorthWest) ∷ []
 
 abbrev pub eight_leaps : {X : Type 0} → (X → X → X) → (Direction → Direction → X) → X
 eight_leaps f g =

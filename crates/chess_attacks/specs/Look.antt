@@ -2,9 +2,11 @@
 use Rattle.std.specs.Prelude.{ℕ, zero, suc, ◌+◌, Bool, false, ◌&&◌, ◌||◌, Option, nat_lt}
 use Rattle.board.specs.declared.direction.Direction.{Direction}
 use Rattle.chess_attacks.specs.declared.men.Man.{Man}
+use Rattle.chess_attacks.specs.declared.men.Kind.TheVariants.{Knight}
 use Rattle.chess_attacks.specs.declared.men.Side.{Side}
-use Rattle.chess_attacks.specs.Men.{Squares, on, given, same_side, is_knight}
-use Rattle.chess_attacks.specs.Ranges.{range_of, opposite}
+use Rattle.chess_attacks.specs.Men.{Squares, on, given, same_side, man_of}
+use Rattle.chess_attacks.specs.Ranges.{range_of}
+use Rattle.board.specs.Squares.{opposite}
 use Rattle.chess_attacks.specs.Lists.{beside, leap, eight_ways, eight_leaps}
 
 -- from s in direction d, k squares on already: whether the first man of the next n is of the side and its range is enough
@@ -15,7 +17,7 @@ struck b d by s k (suc n) =
     (λ t. given (on b t) (struck b d by t (k + 1) n) (λ m. same_side m.side by && nat_lt k (range_of m (opposite d))))
 
 abbrev pub knight_of : Side → Option Man → Bool
-knight_of by o = given o false (λ m. same_side m.side by && is_knight m.kind)
+knight_of by = man_of by Knight
 
 -- whether a knight of the side stands a leap away
 unfoldable pub leapt : Squares → Side → ℕ → Direction → Direction → Bool

@@ -1,5 +1,5 @@
 -- The men of a board: what stands on a square, and whose it is.
-use Rattle.std.specs.Prelude.{ℕ, Bool, true, false, ◌&&◌, List, Some, None, Option, slice_index_or}
+use Rattle.std.specs.Prelude.{ℕ, Bool, true, false, ◌&&◌, ◌==◌, List, Some, None, Option, slice_index_or}
 use Rattle.chess_attacks.specs.declared.men.Man.{Man}
 use Rattle.chess_attacks.specs.declared.men.Kind.{Kind}
 use Rattle.chess_attacks.specs.declared.men.Kind.TheVariants.{King, Queen, Rook, Bishop, Knight, Pawn}
@@ -29,33 +29,34 @@ same_side White Black = false
 same_side Black White = false
 same_side Black Black = true
 
+-- the kinds by number, to compare them
+abbrev pub kind_number : Kind → ℕ
+kind_number King = 0
+kind_number Queen = 1
+kind_number Rook = 2
+kind_number Bishop = 3
+kind_number Knight = 4
+kind_number Pawn = 5
+
+abbrev pub same_kind : Kind → Kind → Bool
+same_kind k j = kind_number k == kind_number j
+
 abbrev pub is_king : Kind → Bool
-is_king King = true
-is_king Queen = false
-is_king Rook = false
-is_king Bishop = false
-is_king Knight = false
-is_king Pawn = false
+is_king k = same_kind k King
 
 abbrev pub is_knight : Kind → Bool
-is_knight King = false
-is_knight Queen = false
-is_knight Rook = false
-is_knight Bishop = false
-is_knight Knight = true
-is_knight Pawn = false
+is_knight k = same_kind k Knight
 
 abbrev pub is_pawn : Kind → Bool
-is_pawn King = false
-is_pawn Queen = false
-is_pawn Rook = false
-is_pawn Bishop = false
-is_pawn Knight = false
-is_pawn Pawn = true
+is_pawn k = same_kind k Pawn
 
--- whether a man of the side stands there, and whether its king does
+-- whether a man of the side stands there
 abbrev pub of : Side → Option Man → Bool
 of a o = given o false (λ m. same_side m.side a)
 
+-- whether a man of the side and kind does
+abbrev pub man_of : Side → Kind → Option Man → Bool
+man_of a k o = given o false (λ m. same_side m.side a && same_kind m.kind k)
+
 abbrev pub king_of : Side → Option Man → Bool
-king_of a o = given o false (λ m. same_side m.side a && is_king m.kind)
+king_of a = man_of a King

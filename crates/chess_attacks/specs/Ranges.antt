@@ -50,13 +50,3 @@ ranges Pawn a d = ahead a d
 
 abbrev pub range_of : Man → Direction → ℕ
 range_of m d = ranges m.kind m.side d
-
-abbrev pub opposite : Direction → Direction
-opposite North = South
-opposite NorthEast = SouthWest
-opposite East = West
-opposite SouthEast = NorthWest
-opposite South = North
-opposite SouthWest = NorthEast
-opposite West = East
-opposite NorthWest = SouthEast

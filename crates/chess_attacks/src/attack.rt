@@ -5,10 +5,10 @@ ghost use Rattle.chess_attacks.specs.Lists.{attacked, king_hit, checked};
 
 use crate::commands::man_on;
 use crate::look::{leap_attack, line_attack};
-use crate::men::{Board, Kind, Man, Side};
+use crate::men::{Board, Kind, Side, holds_man};
 use board::Square;
 
-// Whether a man of the side attacks the square.
+/// Whether a man of the side attacks the square.
 pub fn attacked(board: &Board, square: Square, by: Side) -> bool
     ensures exact { result ≡ attacked board.now square.number by }
     ensures meaning { Decides result (Attacked board.now square.number by) }
@@ -20,25 +20,13 @@ pub fn attacked(board: &Board, square: Square, by: Side) -> bool
 fn king_hit(board: &Board, square: Square, side: Side) -> bool
     ensures { result ≡ king_hit board.now side square.number }
 {
-    match man_on(board, square) {
-        Some(man) => man.side == side
-            && man.kind == Kind::King
-            && attacked(board, square, side.other()),
-        None => false,
-    }
+    holds_man(man_on(board, square), side, Kind::King) && attacked(board, square, side.other())
 }
 
-// Whether a king of the side is attacked.
+/// Whether a king of the side is attacked.
 pub fn in_check(board: &Board, side: Side) -> bool
     ensures exact { result ≡ checked board.now side }
     ensures meaning { Decides result (Checked board.now side) }
 {
-    for number in 0..64 {
-        if let Some(square) = Square::new(number) {
-            if king_hit(board, square, side) {
-                return true;
-            }
-        }
-    }
-    false
+    Square::all().any(|square| king_hit(board, square, side))
 }

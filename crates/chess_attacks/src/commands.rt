@@ -77,7 +77,7 @@ const LEAPS: [u64; 64] = [
 ];
 
 impl Man {
-    // How far the man commands in a direction on an empty board: 0, 1 or 7 squares.
+    /// How far the man commands in a direction on an empty board: 0, 1 or 7 squares.
     pub fn range(self, direction: Direction) -> u8
         ensures { result ≡ range_of self direction }
     {
@@ -86,38 +86,41 @@ impl Man {
             Kind::Queen => 7,
             Kind::Rook => match direction {
                 Direction::North | Direction::East | Direction::South | Direction::West => 7,
-                _ => 0,
+                Direction::NorthEast
+                | Direction::SouthEast
+                | Direction::SouthWest
+                | Direction::NorthWest => 0,
             },
             Kind::Bishop => match direction {
                 Direction::North | Direction::East | Direction::South | Direction::West => 0,
-                _ => 7,
+                Direction::NorthEast
+                | Direction::SouthEast
+                | Direction::SouthWest
+                | Direction::NorthWest => 7,
             },
             Kind::Knight => 0,
-            Kind::Pawn => match (self.side, direction) {
-                (Side::White, Direction::NorthEast | Direction::NorthWest) => 1,
-                (Side::Black, Direction::SouthEast | Direction::SouthWest) => 1,
-                _ => 0,
-            },
+            Kind::Pawn => u8::from(match self.side {
+                Side::White => matches!(direction, Direction::NorthEast | Direction::NorthWest),
+                Side::Black => matches!(direction, Direction::SouthEast | Direction::SouthWest),
+            }),
         }
     }
 }
 
-// What stands on the square.
+/// What stands on the square.
 pub fn man_on(board: &Board, square: Square) -> Option<Man>
     ensures { result ≡ on board.now square.number }
 {
     board[square.number() as usize]
 }
 
-// The squares from `from` in a direction, at most `most` of them, up to and with the first that holds a man.
+/// The squares from `from` in a direction, at most `most` of them, up to and with the first that holds a man, as a
+/// word.
 pub fn line(board: &Board, from: Square, direction: Direction, most: u8) -> u64
     ensures { result ≡ mask (line board.now direction from.number most) }
 {
     let mut seen = 0;
-    for walked in 0..most {
-        let Some(next) = from.beyond(direction, walked + 1) else {
-            return seen;
-        };
+    for next in from.ray(direction).take(most as usize) {
         seen |= next.single();
         if man_on(board, next).is_some() {
             return seen;
@@ -130,34 +133,10 @@ pub fn line(board: &Board, from: Square, direction: Direction, most: u8) -> u64
 fn lines(board: &Board, man: Man, from: Square) -> u64
     ensures { result ≡ mask (lines board.now man from.number) }
 {
-    line(board, from, Direction::North, man.range(Direction::North))
-        | line(
-            board,
-            from,
-            Direction::NorthEast,
-            man.range(Direction::NorthEast),
-        )
-        | line(board, from, Direction::East, man.range(Direction::East))
-        | line(
-            board,
-            from,
-            Direction::SouthEast,
-            man.range(Direction::SouthEast),
-        )
-        | line(board, from, Direction::South, man.range(Direction::South))
-        | line(
-            board,
-            from,
-            Direction::SouthWest,
-            man.range(Direction::SouthWest),
-        )
-        | line(board, from, Direction::West, man.range(Direction::West))
-        | line(
-            board,
-            from,
-            Direction::NorthWest,
-            man.range(Direction::NorthWest),
-        )
+    Direction::ALL
+        .iter()
+        .map(|direction| line(board, from, *direction, man.range(*direction)))
+        .fold(0, |seen, more| seen | more)
 }
 
 // The squares a knight's leap away.
@@ -167,7 +146,7 @@ fn leaps(from: Square) -> u64
     LEAPS[from.number() as usize]
 }
 
-// The squares that the man commands from `from`.
+/// The squares that the man commands from `from`, as a word.
 pub fn commanded(board: &Board, man: Man, from: Square) -> u64
     ensures exact { result ≡ mask (commands board.now man from.number) }
     ensures meaning { (t : ℕ) → Decides (bit result t) (Commands board.now man from.number t) }

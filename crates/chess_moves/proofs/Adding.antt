@@ -1,35 +1,34 @@
 -- Lists of moves that are added to.
-use Rattle.std.proofs.Common.{◌≡◌, ℕ, ◌≤◌, true, leb, List, [], ◌++◌, length, take, sym, refl, ap, ◌∙◌, arith}
-use Rattle.std.proofs.lemmas.Bool.{leb-true}
-use Rattle.chess_moves.specs.declared.list.MoveList.{MoveList}
+use Rattle.std.proofs.Common.{◌≡◌, ℕ, ◌<◌, ◌≤◌, true, false, eqb, List, [], ◌∷◌, ◌++◌, length, take, sym, ap, ◌∙◌, arith}
+use Rattle.std.proofs.lemmas.Bool.{eqb-true}
+use Rattle.std.proofs.lemmas.Bool.Decides.{nat_tests}
+use Rattle.std.proofs.lemmas.List.{take_all, append-nil, length_push}
 use Rattle.chess_moves.specs.declared.step.Move.{Move}
-use Rattle.chess_moves.specs.Moves.{listed, Adds}
-use Rattle.chess_moves.proofs.Cut.{listing_none, listing_more, listing_full}
+use Rattle.chess_moves.specs.Moves.{Adds}
+use Rattle.chess_moves.proofs.Cut.{cut_short, cut_more, cut_full}
 
-pub adds_none : (l : MoveList) → Adds l [] l
-adds_none l =
-    let room : l.limit ≤ length l.moves = omega (arith, l.room, l.whole) in
-    record { list = listing_none l.limit l.moves l.count room l.within; limit = refl }
+module _ {n : ℕ} where
+  pub adds_none : (l : List Move) → Adds n l [] l
+  adds_none l = record { list = λ h. sym (ap (take n) (append-nil l) ∙ take_all n l h) }
 
-pub adds_more : (l : MoveList) (xs ys : List Move) (m r : MoveList) → Adds l xs m → Adds m ys r → Adds l (xs ++ ys) r
-adds_more l xs ys m r h k =
-    record {
-      list = listing_more l.limit (listed l) xs ys h.list (k.list ∙ ap (λ n. take n (listed m ++ ys)) h.limit);
-      limit = k.limit ∙ h.limit;
-    }
+  -- by the test of whether the list is full
+  pub adds_push : {l r : List Move} (v : Move) → length l ≤ n → false ≡ eqb (length l) n → r ≡ l ++ v ∷ [] → Adds n l (v ∷ []) r
+  adds_push {l} v h f e =
+      let room : length l < n = grind (arith, nat_tests) in
+      record { list = λ _. e ∙ sym (take_all n (l ++ v ∷ []) (simp length_push (omega arith))) }
 
-pub adds_full : (l : MoveList) (xs ys : List Move) (m : MoveList) → Adds l xs m → true ≡ leb m.limit (length (listed m)) → Adds l (xs ++ ys) m
-adds_full l xs ys m h f =
-    let full : m.limit ≤ length (listed m) = leb-true m.limit (length (listed m)) (sym f) in
-    record { list = listing_full l.limit (listed l) xs ys h.list (omega (arith, h.limit, full)); limit = h.limit }
+  pub adds_more : {l xs ys m r : List Move} → Adds n l xs m → Adds n m ys r → Adds n l (xs ++ ys) r
+  adds_more {l} {xs} {ys} h k =
+      record { list = λ s. cut_more n l xs ys (h.list s) (k.list (cut_short n l xs (h.list s))) }
 
-pub adds_as : (l : MoveList) (xs ys : List Move) (r : MoveList) → xs ≡ ys → Adds l xs r → Adds l ys r
-adds_as l xs ys r e h = record { list = h.list ∙ ap (λ zs. take l.limit (listed l ++ zs)) e; limit = h.limit }
+  pub adds_full : {l xs m : List Move} (ys : List Move) → Adds n l xs m → true ≡ eqb (length m) n → Adds n l (xs ++ ys) m
+  adds_full {l} {xs} {m} ys h f =
+      let full : length m ≡ n = eqb-true (length m) n (sym f) in
+      record { list = λ s. cut_full n l xs ys (h.list s) (omega arith) }
 
-pub adds_four : (l : MoveList) (q r b n : List Move) (l₁ l₂ l₃ l₄ : MoveList) → Adds l q l₁ → Adds l₁ r l₂ → Adds l₂ b l₃ → Adds l₃ n l₄ → Adds l (q ++ (r ++ (b ++ n))) l₄
-adds_four l q r b n l₁ l₂ l₃ l₄ h₁ h₂ h₃ h₄ =
-    adds_more l q (r ++ (b ++ n)) l₁ l₄ h₁ (adds_more l₁ r (b ++ n) l₂ l₄ h₂ (adds_more l₂ b n l₃ l₄ h₃ h₄))
+  pub adds_as : {l xs ys r : List Move} → xs ≡ ys → Adds n l xs r → Adds n l ys r
+  adds_as {l} e h = record { list = λ s. h.list s ∙ ap (λ zs. take n (l ++ zs)) e }
 
--- what is added to an empty list
-pub adds_first : (l : MoveList) (vs : List Move) (r : MoveList) (n : ℕ) → listed l ≡ [] → l.limit ≡ n → Adds l vs r → listed r ≡ take n vs
-adds_first l vs r n e k h = h.list ∙ (λ i. take (k i) (e i ++ vs))
+  -- what is added to an empty list
+  pub adds_first : {l vs r : List Move} → l ≡ [] → Adds n l vs r → r ≡ take n vs
+  adds_first {l} {vs} e h = h.list (omega (arith, ap length e)) ∙ ap (λ xs. take n (xs ++ vs)) e

@@ -269,7 +269,7 @@ module _ (d : Diagram) (m : Man) (f t : ℕ) (f-in : f < 64) (t-in : t < 64) (th
   listed_to k way h =
       let r = to-rest d.board (passing_of d) m (reach_of d.board m f) (steps_of d.board m f) f (t + 1) (omega arith) in
       let here : His (t + 1) ≡ His t ++ tries d.board (passing_of d) m f t
-      = to_more d.board (passing_of d) m f (reach_of d.board m f) (steps_of d.board m f) t true (sym ((goes_means d.board (passing_of d) m f t f-in).1 way)) in
+      = to_more d.board (passing_of d) m f (reach_of d.board m f) (steps_of d.board m f) t t (t + 1) true refl refl (sym ((goes_means d.board (passing_of d) m f t f-in).1 way)) in
       subst (λ (xs : List Move). Has xs (a_move f t k)) (sym r.1)
       (has_append_left (His (t + 1)) r.0 (a_move f t k)
       (subst (λ (xs : List Move). Has xs (a_move f t k)) (sym here) (has_append_right (His t) (tries d.board (passing_of d) m f t) (a_move f t k) h)))
@@ -278,7 +278,7 @@ module _ (d : Diagram) (m : Man) (f t : ℕ) (f-in : f < 64) (t-in : t < 64) (th
   listed_from k h =
       let r = from-rest d.board d.mover (passing_of d) (f + 1) (omega arith) in
       let here : moves_from d.board d.mover (passing_of d) (f + 1) ≡ moves_from d.board d.mover (passing_of d) f ++ His 64
-      = from_more d.board d.mover (passing_of d) f
+      = from_more d.board d.mover (passing_of d) f f (f + 1) refl refl
       ∙ ap (λ xs. moves_from d.board d.mover (passing_of d) f ++ xs) (of_man d.board d.mover (passing_of d) f m true there (side-true m.side d.mover ours)) in
       subst (λ (xs : List Move). Has xs (a_move f t k)) (sym r.1)
       (has_append_left (moves_from d.board d.mover (passing_of d) (f + 1)) r.0 (a_move f t k)

@@ -1,5 +1,5 @@
 -- The legal moves of a diagram as a list.
-use Rattle.std.specs.Prelude.{◌≡◌, ℕ, zero, suc, Bool, true, false, cond, not, ◌&&◌, ◌||◌, List, [], ◌∷◌, ◌++◌, take, Some, None, Option}
+use Rattle.std.specs.Prelude.{◌≡◌, ℕ, zero, suc, Bool, true, false, cond, not, ◌&&◌, ◌||◌, ◌≤◌, List, [], ◌∷◌, ◌++◌, length, take, Some, None, Option}
 use Rattle.board.specs.Masks.{member}
 use Rattle.chess_attacks.specs.declared.men.Man.{Man}
 use Rattle.chess_attacks.specs.declared.men.Side.{Side}
@@ -75,9 +75,8 @@ passing_of d = numbered d.passing
 
 -- what a list of moves holds
 abbrev pub listed : MoveList → List Move
-listed l = take l.count l.moves
+listed l = l.moves.items
 
--- r is the list l with the moves vs added, as far as its limit goes
-pub record Adds (l : MoveList) (vs : List Move) (r : MoveList) : Type 0 where
-  pub list : listed r ≡ take l.limit (listed l ++ vs)
-  pub limit : r.limit ≡ l.limit
+-- where n moves fit, r is the list l with the moves vs added as far as there is room
+pub record Adds (n : ℕ) (l vs r : List Move) : Type 0 where
+  pub list : length l ≤ n → r ≡ take n (l ++ vs)

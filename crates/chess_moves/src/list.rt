@@ -1,14 +1,11 @@
-ghost use Rattle.std.specs.Prelude.{◌≡◌, ◌≤◌, length};
-
 use crate::step::Move;
+use arrayvec::ArrayVec;
 
-// The first `count` of `moves`, in order; no more than `limit` are taken.
-#[derive(Clone, Copy)]
+/// The most moves that a list holds.
+pub const MOST: usize = 415;
+
+/// Moves in order, at most `MOST` of them.
+#[derive(Drop)]
 pub struct MoveList {
-    pub(crate) moves: [Move; 415],
-    pub(crate) count: usize,
-    pub(crate) limit: usize,
-    ghost within: { count ≤ limit },
-    ghost room: { limit ≤ 415 },
-    ghost whole: { length moves ≡ 415 },
+    pub(crate) moves: ArrayVec<Move, MOST>,
 }

@@ -1,14 +1,13 @@
-ghost use Rattle.std.specs.Prelude.{◌≡◌, ℕ, ◌+◌, ◌<◌, ◌≤◌, Bool, true, false, cond, not, ◌&&◌, ◌||◌};
-ghost use Rattle.board.specs.Squares.{file, row};
-ghost use Rattle.chess_attacks.specs.Men.{is_pawn};
+ghost use Rattle.std.specs.Prelude.{◌≡◌};
 ghost use Rattle.chess_attacks.specs.Lists.{numbered};
 ghost use Rattle.chess_moves.specs.Pawns.{forward, start_row, last_row, kind_of, becoming, at_end, stride, is_passing, en_passant, two_rows, passes};
 
-use crate::step::Promotion;
+use crate::step::{Move, Promotion};
 use board::{Direction, Square};
 use chess_attacks::{Kind, Man, Side, beside};
 
-pub(crate) fn forward(side: Side) -> Direction
+/// The direction in which a side's pawns step.
+pub fn forward(side: Side) -> Direction
     ensures { result ≡ forward side }
 {
     match side {
@@ -36,7 +35,7 @@ fn last_row(side: Side) -> u8
 }
 
 impl Promotion {
-    // The kind of the man that a pawn becomes.
+    /// The kind of the man that a pawn becomes.
     pub fn kind(self) -> Kind
         ensures { result ≡ kind_of self }
     {
@@ -49,14 +48,15 @@ impl Promotion {
     }
 }
 
+// What the man is after its move.
 pub(crate) fn becoming(man: Man, promotion: Option<Promotion>) -> Man
     ensures { result ≡ becoming man promotion }
 {
     match promotion {
         None => man,
         Some(promotion) => Man {
-            side: man.side,
             kind: promotion.kind(),
+            ..man
         },
     }
 }
@@ -79,31 +79,28 @@ pub(crate) fn stride(side: Side, from: Square) -> u8
 pub(crate) fn is_passing(passing: Option<Square>, to: Square) -> bool
     ensures { result ≡ is_passing (numbered passing) to.number }
 {
-    match passing {
-        None => false,
-        Some(square) => square.number() == to.number(),
-    }
+    passing == Some(to)
 }
 
 // Whether the man is a pawn that goes aslant to the square which another has just passed.
-pub(crate) fn takes_passing(passing: Option<Square>, man: Man, from: Square, to: Square) -> bool
-    ensures { result ≡ en_passant (numbered passing) man from.number to.number }
+pub(crate) fn takes_passing(passing: Option<Square>, man: Man, step: Move) -> bool
+    ensures { result ≡ en_passant (numbered passing) man step.from.number step.to.number }
 {
-    man.kind == Kind::Pawn && from.file() != to.file() && is_passing(passing, to)
+    man.kind == Kind::Pawn && step.from.file() != step.to.file() && is_passing(passing, step.to)
 }
 
-fn is_double(from: Square, to: Square) -> bool
-    ensures { result ≡ two_rows from.number to.number }
+fn is_double(step: Move) -> bool
+    ensures { result ≡ two_rows step.from.number step.to.number }
 {
-    to.row() == from.row() + 2 || from.row() == to.row() + 2
+    step.from.row().abs_diff(step.to.row()) == 2
 }
 
 // The square that a pawn passes when it goes two rows.
-pub(crate) fn passes(man: Man, from: Square, to: Square) -> Option<Square>
-    ensures { result ≡ passes man from.number to.number }
+pub(crate) fn passes(man: Man, step: Move) -> Option<Square>
+    ensures { result ≡ passes man step.from.number step.to.number }
 {
-    if man.kind == Kind::Pawn && is_double(from, to) {
-        beside(from, forward(man.side))
+    if man.kind == Kind::Pawn && is_double(step) {
+        beside(step.from, forward(man.side))
     } else {
         None
     }

@@ -7,7 +7,7 @@ use Rattle.chess_attacks.specs.declared.men.Man.{Man}
 use Rattle.chess_attacks.specs.declared.men.Kind.TheVariants.{Pawn}
 use Rattle.chess_attacks.specs.declared.men.Side.{Side}
 use Rattle.chess_attacks.specs.declared.men.Side.TheVariants.{White, Black}
-use Rattle.chess_attacks.specs.Men.{Squares, on, other, same_side, is_pawn}
+use Rattle.chess_attacks.specs.Men.{Squares, on, other, same_side, is_pawn, man_of}
 use Rattle.chess_attacks.specs.Commands.{Checked}
 use Rattle.chess_attacks.specs.Lists.{checked}
 use Rattle.chess_attacks.proofs.Sides.{side-true, side_same, pawn_kind}
@@ -16,16 +16,16 @@ use Rattle.chess_moves.specs.declared.diagram.Diagram.{Diagram}
 use Rattle.chess_moves.specs.Moves.{empty, passing_of}
 use Rattle.chess_moves.specs.Count.{men, kings}
 use Rattle.chess_moves.proofs.Legality.{empty-none}
-use Rattle.chess_rules.specs.Lawful.{passed_row, came_from, went_to, pawn_of, EnPassant, Lawful, side_fine, holds_pawn, inner, pawns_inner, is_pawn_of, passing_fine, rules_kept, lawful}
+use Rattle.chess_rules.specs.Lawful.{passed_row, came_from, went_to, pawn_of, EnPassant, Lawful, side_fine, holds_pawn, inner, pawns_inner, passing_fine, rules_kept, lawful}
 
 -- what stands on a square
-pawn-from : (a : Side) (o : Option Man) → is_pawn_of a o ≡ true → o ≡ pawn_of a
+pawn-from : (a : Side) (o : Option Man) → man_of a Pawn o ≡ true → o ≡ pawn_of a
 pawn-from a None h = absurd (false≢true h)
 pawn-from a (Some m) h =
     let p = and_parts (same_side m.side a) (is_pawn m.kind) h in
     ap Some (λ i. record { side = side_same m.side a p.0 i; kind = pawn_kind m.kind p.1 i })
 
-pawn-to : (a : Side) → is_pawn_of a (pawn_of a) ≡ true
+pawn-to : (a : Side) → man_of a Pawn (pawn_of a) ≡ true
 pawn-to a = and_from (same_side a a) true (side-true a a refl) refl
 
 -- the pawns' rows
@@ -54,13 +54,13 @@ module _ (b : Squares) where
   unfolding pawns_inner
   pawns_means n = Decides-below_and (inner b) Inner (pawns_inner b) inner_means refl (λ n. refl) n
 
-  pub inner_none : pawns_inner b 0 ≡ true
+  pub inner_none : (n : ℕ) → n ≡ 0 → pawns_inner b n ≡ true
   unfolding pawns_inner
-  inner_none = refl
+  inner_none n z = rw z refl
 
-  pub inner_more : (s : ℕ) → pawns_inner b s ≡ true → inner b s ≡ true → pawns_inner b (s + 1) ≡ true
+  pub inner_more : (n s next : ℕ) → s ≡ n → next ≡ n + 1 → pawns_inner b n ≡ true → inner b s ≡ true → pawns_inner b next ≡ true
   unfolding pawns_inner
-  inner_more s h k = rw add-one (and_from (inner b s) (pawns_inner b s) k h)
+  inner_more n s next same z h k = rw (z, add-one) (and_from (inner b n) (pawns_inner b n) (ap (inner b) (sym same) ∙ k) h)
 
   pub inner_not : (n s : ℕ) → s < n → inner b s ≡ false → pawns_inner b n ≡ false
   inner_not n s l h = go (pawns_inner b n) refl
@@ -76,7 +76,7 @@ module _ (b : Squares) (a : Side) where
   passing_from (Some s) h =
       let p = and_parts (eqb (row s) (passed_row a)) _ h in
       let q = and_parts (empty (on b s)) _ p.1 in
-      let r = and_parts (empty (on b (came_from a s))) (is_pawn_of (other a) (on b (went_to a s))) q.1 in
+      let r = and_parts (empty (on b (came_from a s))) (man_of (other a) Pawn (on b (went_to a s))) q.1 in
       record {
         on_row = eqb-true (row s) (passed_row a) p.0;
         clear = empty-none (on b s) q.0;
@@ -89,7 +89,7 @@ module _ (b : Squares) (a : Side) where
   passing_to (Some s) h =
       and_from (eqb (row s) (passed_row a)) _ (eq-eqb (row s) (passed_row a) h.on_row)
       (and_from (empty (on b s)) _ (ap empty h.clear)
-      (and_from (empty (on b (came_from a s))) _ (ap empty h.left) (ap (is_pawn_of (other a)) h.pawn ∙ pawn-to (other a))))
+      (and_from (empty (on b (came_from a s))) _ (ap empty h.left) (ap (man_of (other a) Pawn) h.pawn ∙ pawn-to (other a))))
 
   side_from : (c : Side) → side_fine b c ≡ true → (kings b c ≡ 1) × (men b c ≤ 16)
   side_from c h = let p = and_parts (eqb (kings b c) 1) (leb (men b c) 16) h in (eqb-true (kings b c) 1 p.0, leb-true (men b c) 16 p.1)
@@ -147,9 +147,3 @@ module _ (d : Diagram) where
   pub lawful_is : length b ≡ 64 → rules_kept b a (passing_of d) ≡ lawful d
   unfolding lawful
   lawful_is h = sym (ap (λ x. x && rules_kept b a (passing_of d)) (eq-eqb (length b) 64 h))
-
--- the test by its parts
-pub kept_is : (b : Squares) (a : Side) (e : Option ℕ) (w k i c p : Bool) → w ≡ side_fine b White → k ≡ side_fine b Black → i ≡ pawns_inner b 64
-    → c ≡ checked b (other a) → p ≡ passing_fine b a e → (w && (k && (i && (not c && p)))) ≡ rules_kept b a e
-unfolding rules_kept
-kept_is b a e w k i c p hw hk hi hc hp = λ j. hw j && (hk j && (hi j && (not (hc j) && hp j)))

@@ -5,7 +5,7 @@ use Rattle.chess_attacks.specs.declared.men.Man.{Man}
 use Rattle.chess_attacks.specs.declared.men.Kind.TheVariants.{Pawn}
 use Rattle.chess_attacks.specs.declared.men.Side.{Side}
 use Rattle.chess_attacks.specs.declared.men.Side.TheVariants.{White, Black}
-use Rattle.chess_attacks.specs.Men.{Squares, on, given, other, same_side, is_pawn}
+use Rattle.chess_attacks.specs.Men.{Squares, on, given, other, is_pawn, man_of}
 use Rattle.chess_attacks.specs.Commands.{Checked}
 use Rattle.chess_attacks.specs.Lists.{checked}
 use Rattle.chess_moves.specs.declared.diagram.Diagram.{Diagram}
@@ -69,12 +69,9 @@ unfoldable pub pawns_inner : Squares → ℕ → Bool
 pawns_inner b zero = true
 pawns_inner b (suc n) = inner b n && pawns_inner b n
 
-abbrev pub is_pawn_of : Side → Option Man → Bool
-is_pawn_of a o = given o false (λ m. same_side m.side a && is_pawn m.kind)
-
 abbrev pub passing_fine : Squares → Side → Option ℕ → Bool
 passing_fine b a None = true
-passing_fine b a (Some s) = row s == passed_row a && (empty (on b s) && (empty (on b (came_from a s)) && is_pawn_of (other a) (on b (went_to a s))))
+passing_fine b a (Some s) = row s == passed_row a && (empty (on b s) && (empty (on b (came_from a s)) && man_of (other a) Pawn (on b (went_to a s))))
 
 unfoldable pub rules_kept : Squares → Side → Option ℕ → Bool
 rules_kept b a e =

@@ -10,7 +10,7 @@ use crate::rules::is_lawful;
 use chess_moves::{Diagram, MoveList};
 
 impl Position {
-    // The position of a diagram, if it keeps the rules.
+    /// The position of a diagram, if it keeps the rules.
     pub fn new(diagram: Diagram) -> Option<Position>
         ensures { MatchOption result (Lawful diagram → ⊥) (λ p. Lawful diagram × (p.diagram ≡ diagram)) }
     {
@@ -21,7 +21,7 @@ impl Position {
         }
     }
 
-    // The legal moves, by from-square, then to-square, then queen, rook, bishop and knight.
+    /// The legal moves, by from-square, then to-square, then queen, rook, bishop and knight.
     pub fn moves(&self) -> MoveList
         ensures exact { listed result ≡ legal_moves self.now.diagram }
         ensures legal { Lists self.now.diagram (listed result) }
@@ -29,22 +29,18 @@ impl Position {
         chess_moves::moves(&self.diagram)
     }
 
-    // The position after the legal move of a number.
+    /// The position after the legal move of a number, counted from 0: none where there is no such move.
     pub fn after(&self, number: usize) -> Option<Position>
         ensures { diagram_of result ≡ next_of self.now.diagram number }
     {
-        match self.moves().get(number) {
-            None => None,
-            Some(step) => Some(Position {
-                diagram: chess_moves::play(&self.diagram, step),
-            }),
-        }
+        let step = self.moves().get(number)?;
+        Some(Position {
+            diagram: chess_moves::play(&self.diagram, step),
+        })
     }
 }
 
-// A legal move keeps the rules of a position.
-pub fn legal_moves_keep() -> u8
+/// A legal move keeps the rules of a position.
+pub fn legal_moves_keep()
     ensures { MovesKeep }
-{
-    0
-}
+{}

@@ -1,10 +1,13 @@
 -- The square of a number.
-use Rattle.std.proofs.Common.{◌≡◌, ℕ, ◌<◌, ◌≤◌, Bool, true, false, T, ltb, Some, None, Option, sym, refl, ap, ◌∙◌, arith, ltb→lt, MatchOption}
+use Rattle.std.proofs.Common.{◌≡◌, ℕ, ◌-◌, ◌<◌, ◌≤◌, Bool, true, false, T, ltb, ◌⊎◌, inl, inr, Some, None, Option, sym, refl, ap, ◌∙◌, arith, ltb→lt, MatchOption}
 use Rattle.std.proofs.lemmas.Bool.Decides.{nat_tests}
 use Rattle.board.specs.Squares.{square_at, file, row}
 use Rattle.board.specs.declared.square.Square.{Square}
 use Rattle.board.proofs.Same.{same_square}
-use Rattle.chess_text.specs.Reading.{square, square_if}
+use Rattle.chess_text.specs.Reading.{square, square_if, reader, step}
+use Rattle.chess_attacks.specs.Men.{Squares as Board}
+use Rattle.chess_attacks.specs.declared.men.Side.{Side}
+use Rattle.chess_text.specs.declared.reader.Awaits.TheVariants.{PassingRow, Blanks}
 
 pub square-is : (s : Square) → square s.number ≡ Some s
 square-is s = at (ltb s.number 64) (ltb→lt s.number 64) (let h = s.ok in grind (arith, nat_tests))
@@ -34,3 +37,10 @@ pub found : (f r : ℕ) (o : Option Square) → f < 8 → r < 8
     → MatchOption o (f < 8 → 8 ≤ r) (λ s. (f < 8) × (r < 8) × (s.number ≡ square_at f r)) → o ≡ square (square_at f r)
 found f r None h k c = absurd (let z = c h in let y : ⊥ = omega arith in y)
 found f r (Some s) h k c = square-of s (square_at f r) c.2
+
+-- a digit 3 or 6 after a file names the en passant square
+pub passed : (b : Board) (m : Side) (p : Option Square) (f c : ℕ) (o : Option Square) → f < 8 → (c ≡ 51) ⊎ (c ≡ 54)
+    → MatchOption o (f < 8 → 8 ≤ c - 49) (λ s. (f < 8) × (c - 49 < 8) × (s.number ≡ square_at f (c - 49)))
+    → step (PassingRow f) b m p c ≡ Some (reader Blanks b m o)
+passed b m p f c o h (inl e) k = rw (e, found f 2 o h (omega arith) (rw e at k)) refl
+passed b m p f c o h (inr e) k = rw (e, found f 5 o h (omega arith) (rw e at k)) refl

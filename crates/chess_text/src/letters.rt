@@ -1,12 +1,10 @@
-ghost use Rattle.std.specs.Prelude.{◌≡◌, ◌<◌};
-ghost use Rattle.board.specs.Squares.{square_at};
+ghost use Rattle.std.specs.Prelude.{◌≡◌};
 ghost use Rattle.chess_text.specs.Letters.{man_of, side_of, run_of, file_of};
-ghost use Rattle.chess_text.specs.Reading.{square};
 
-use board::Square;
 use chess_attacks::{Kind, Man, Side};
 
-// The man that a letter means.
+// The man that a letter means. The letters are literals, here and below: the project's rules want them seen.
+#[tactic(auto, unfolding(crate::specs::Letters::man_of))]
 pub(crate) fn man(byte: u8) -> Option<Man>
     ensures { result ≡ man_of byte }
 {
@@ -29,6 +27,7 @@ pub(crate) fn man(byte: u8) -> Option<Man>
 }
 
 // The side that a letter means.
+#[tactic(auto, unfolding(crate::specs::Letters::side_of))]
 pub(crate) fn side(byte: u8) -> Option<Side>
     ensures { result ≡ side_of byte }
 {
@@ -40,6 +39,7 @@ pub(crate) fn side(byte: u8) -> Option<Side>
 }
 
 // The run of empty squares that a digit means.
+#[tactic(auto, unfolding(crate::specs::Letters::run_of))]
 pub(crate) fn run(byte: u8) -> Option<u8>
     ensures { result ≡ run_of byte }
 {
@@ -49,7 +49,8 @@ pub(crate) fn run(byte: u8) -> Option<u8>
     }
 }
 
-// The file that a letter means.
+// The file that a letter means. Beside `run`, and not one function with it: with the range as a parameter the letters would not be seen.
+#[tactic(auto, unfolding(crate::specs::Letters::file_of))]
 pub(crate) fn file(byte: u8) -> Option<u8>
     ensures { result ≡ file_of byte }
 {
@@ -57,12 +58,4 @@ pub(crate) fn file(byte: u8) -> Option<u8>
         'a'..='h' => Some(byte - b'a'),
         _ => None,
     }
-}
-
-// The square at a file and a row.
-pub(crate) fn square(file: u8, row: u8) -> Option<Square>
-    requires { (file < 8) × (row < 8) }
-    ensures { result ≡ square (square_at file row) }
-{
-    Square::at(file, row)
 }

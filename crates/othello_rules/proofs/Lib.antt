@@ -1,5 +1,6 @@
 pub mod Shifts
 pub mod Closing
+pub mod Directions
 pub mod ByWords
 pub mod Filtered
 pub mod Sizes

@@ -1,14 +1,11 @@
 -- The squares that a list of placements holds.
-use Rattle.std.specs.Prelude.{ℕ, List, map, take}
+use Rattle.std.specs.Prelude.{ℕ, List, map}
 use Rattle.board.specs.declared.square.Square.{Square}
 use Rattle.othello_rules.specs.declared.placements.Placements.{Placements}
 
 abbrev pub number_of : Square → ℕ
 number_of s = s.number
 
--- the first n squares of an array, by number
-abbrev pub numbers : ℕ → List Square → List ℕ
-numbers n xs = map number_of (take n xs)
-
+-- the squares by number
 abbrev pub listed : Placements → List ℕ
-listed p = numbers p.count p.squares
+listed p = map number_of p.squares.items

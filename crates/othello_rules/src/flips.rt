@@ -4,9 +4,10 @@ ghost use Rattle.board.specs.Squares.{reach, away, ray};
 ghost use Rattle.othello_rules.specs.Rules.{turned, flipped};
 ghost use Rattle.othello_rules.specs.Turning.{Turning, Placing};
 
+use crate::roles::Roles;
 use board::{Direction, Square};
 
-// The cell one step further in the direction: a word that has one bit, and still has one.
+// The cell one step further in the direction: a word that has one bit, and still has one. By shifts, as the project's rules want it.
 fn shifted(cell: u64, direction: Direction) -> u64
     ensures { (s k : ℕ) → s < 64 → k < reach direction s → cell ≡ 2 ^ away direction s k → result ≡ 2 ^ away direction s (k + 1) }
 {
@@ -22,49 +23,46 @@ fn shifted(cell: u64, direction: Direction) -> u64
     }
 }
 
-// The discs that a disc on the square turns in one direction.
-fn flips_in(own: u64, other: u64, square: Square, direction: Direction) -> u64
-    ensures { result ≡ mask (turned (bit own) (bit other) (ray direction square.number)) }
-{
-    let mut cell = square.single();
-    let mut taken = 0;
-    for gone in 0..square.steps(direction) {
-        cell = shifted(cell, direction);
-        if other & cell != 0 {
-            taken |= cell;
-        } else if own & cell != 0 {
-            return taken;
-        } else {
-            return 0;
+impl Roles {
+    // The discs that a disc on the square turns in one direction.
+    fn flips_in(self, square: Square, direction: Direction) -> u64
+        ensures { result ≡ mask (turned (bit self.own) (bit self.other) (ray direction square.number)) }
+    {
+        let Roles { own, other } = self;
+        let mut cell = square.single();
+        let mut taken = 0;
+        // the steps are counted: the cell itself is shifted, as the project's rules want discs to be found
+        for gone in 0..square.steps(direction) {
+            cell = shifted(cell, direction);
+            if other & cell != 0 {
+                taken |= cell;
+            } else if own & cell != 0 {
+                return taken;
+            } else {
+                return 0;
+            }
         }
+        0
     }
-    0
+
+    // The discs that a disc on the square turns in the eight directions.
+    pub(crate) fn flips(self, square: Square) -> u64
+        ensures { result ≡ mask (flipped (bit self.own) (bit self.other) square.number) }
+    {
+        let mut turned = 0;
+        for direction in &Direction::ALL {
+            turned |= self.flips_in(square, *direction);
+        }
+        turned
+    }
 }
 
-// The discs that a disc on the square turns in the eight directions.
-pub(crate) fn flips(own: u64, other: u64, square: Square) -> u64
-    ensures { result ≡ mask (flipped (bit own) (bit other) square.number) }
-{
-    flips_in(own, other, square, Direction::East)
-        | flips_in(own, other, square, Direction::West)
-        | flips_in(own, other, square, Direction::North)
-        | flips_in(own, other, square, Direction::South)
-        | flips_in(own, other, square, Direction::NorthEast)
-        | flips_in(own, other, square, Direction::NorthWest)
-        | flips_in(own, other, square, Direction::SouthEast)
-        | flips_in(own, other, square, Direction::SouthWest)
-}
-
-// What a disc turns is what the rules say, by direction and distance.
-pub fn turning_holds() -> u8
+/// What a disc turns is what the rules say, by direction and distance.
+pub fn turning_holds()
     ensures { Turning }
-{
-    0
-}
+{}
 
-// So is what a whole placement turns, and when it is legal.
-pub fn placing_holds() -> u8
+/// So is what a whole placement turns, and when it is legal.
+pub fn placing_holds()
     ensures { Placing }
-{
-    0
-}
+{}

@@ -2,11 +2,13 @@
 
 mod diagram;
 mod flips;
+mod letters;
 mod listing;
 mod placements;
 mod placing;
 mod reader;
 mod reading;
+mod roles;
 mod side;
 mod turn;
 

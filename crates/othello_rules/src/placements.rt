@@ -1,11 +1,8 @@
-ghost use Rattle.std.specs.Prelude.{◌≤◌, length};
-
+use arrayvec::ArrayVec;
 use board::Square;
 
-// Squares in rising order: the first `count` of the array.
-#[derive(Clone, Copy)]
+/// Squares in rising order.
+#[derive(Drop)]
 pub struct Placements {
-    pub(crate) squares: [Square; 64],
-    pub(crate) count: usize,
-    ghost within: { count ≤ length squares },
+    pub(crate) squares: ArrayVec<Square, 64>,
 }

@@ -2,11 +2,12 @@ ghost use Rattle.std.specs.Prelude.{◌≡◌, if◌then◌else◌, Some, None};
 ghost use Rattle.board.specs.Masks.{mask};
 ghost use Rattle.othello_rules.specs.Diagrams.{opponent, discs, disc_at, moved, turns, placeable, placed, passed};
 
-use crate::flips::flips;
+use crate::roles::Roles;
 use crate::{Diagram, Side};
 use board::Square;
 
 impl Side {
+    /// The other side.
     pub fn opponent(self) -> Side
         ensures { result ≡ opponent self }
     {
@@ -17,26 +18,26 @@ impl Side {
     }
 }
 
-// The diagram after a move of the side, by its discs and the hostile ones.
-fn moved(side: Side, own: u64, other: u64) -> Diagram
-    ensures { result ≡ moved side own other }
-{
-    match side {
-        Side::X => Diagram {
-            x: own,
-            o: other,
-            mover: Side::O,
-        },
-        Side::O => Diagram {
-            x: other,
-            o: own,
-            mover: Side::X,
-        },
+impl Roles {
+    // The diagram after a move of the side that has the own discs.
+    fn moved(self, side: Side) -> Diagram
+        ensures { result ≡ moved side self.own self.other }
+    {
+        let Roles { own, other } = self;
+        let (x, o) = match side {
+            Side::X => (own, other),
+            Side::O => (other, own),
+        };
+        Diagram {
+            x,
+            o,
+            mover: side.opponent(),
+        }
     }
 }
 
 impl Diagram {
-    // The discs of a side.
+    /// The discs of a side.
     pub fn discs(&self, side: Side) -> u64
         ensures { result ≡ discs side self.now }
     {
@@ -46,7 +47,7 @@ impl Diagram {
         }
     }
 
-    // The side that has a disc on the square, if one has.
+    /// The side that has a disc on the square, if one has.
     pub fn disc(&self, square: Square) -> Option<Side>
         ensures { result ≡ disc_at self.now square.number }
     {
@@ -59,14 +60,24 @@ impl Diagram {
         }
     }
 
-    // The same discs, with the other side to move.
+    /// The same discs, with the other side to move.
     pub fn passed(&self) -> Diagram
         ensures { result ≡ passed self.now }
     {
         Diagram {
-            x: self.x,
-            o: self.o,
             mover: self.mover.opponent(),
+            ..*self
+        }
+    }
+
+    // The discs by role.
+    fn roles(&self) -> Roles
+        ensures own { result.own ≡ discs self.now.mover self.now }
+        ensures other { result.other ≡ discs (opponent self.now.mover) self.now }
+    {
+        Roles {
+            own: self.discs(self.mover),
+            other: self.discs(self.mover.opponent()),
         }
     }
 
@@ -74,22 +85,21 @@ impl Diagram {
     fn turned(&self, square: Square) -> u64
         ensures { result ≡ mask (turns self.now square.number) }
     {
-        let own = self.discs(self.mover);
-        let other = self.discs(self.mover.opponent());
-        if square.within(own | other) {
+        let roles = self.roles();
+        if square.within(roles.own | roles.other) {
             return 0;
         }
-        flips(own, other, square)
+        roles.flips(square)
     }
 
-    // Whether the mover may place a disc on the square.
+    /// Whether the mover may place a disc on the square.
     pub fn legal(&self, square: Square) -> bool
         ensures { result ≡ placeable self.now square.number }
     {
         self.turned(square) != 0
     }
 
-    // The diagram after a disc of the mover was placed on the square, or none where that is not legal.
+    /// The diagram after a disc of the mover was placed on the square, or none where that is not legal.
     pub fn place(&self, square: Square) -> Option<Diagram>
         ensures { result ≡ (if placeable self.now square.number then Some (placed self.now square.number) else None) }
     {
@@ -97,8 +107,11 @@ impl Diagram {
         if turned == 0 {
             return None;
         }
-        let own = self.discs(self.mover);
-        let other = self.discs(self.mover.opponent());
-        Some(moved(self.mover, own | turned | square.single(), other & !turned))
+        let Roles { own, other } = self.roles();
+        let after = Roles {
+            own: own | turned | square.single(),
+            other: other & !turned,
+        };
+        Some(after.moved(self.mover))
     }
 }

@@ -1,31 +1,32 @@
-use Rattle.std.proofs.Common.{is_some, ap, ◌∙◌}
+use Rattle.std.proofs.Common.{is_some, ap, ◌∙◌, arith}
+use Rattle.std.specs.Iterator.Adapters.{take_source}
 use lib.Bits.{bit_or}
-use Rattle.chess_attacks.proofs.Walks.{seen_start, seen_edge, seen_all, seen-man, seen-on}
+use Rattle.board.proofs.Listed.{ray_step, ray_end}
+use Rattle.chess_attacks.proofs.Walks.{seen_end, seen-man, seen-on}
 use Rattle.chess_attacks.proofs.commands.line.Goals as goal
-
-pub loop-walked-init : goal.loop-walked-init
-loop-walked-init c = seen_start c.args.board.now c.args.direction c.args.from.number c.args.from.ok c.args.most
-
-pub returns-in_default : goal.returns-in_default
-returns-in_default c =
-    seen_edge c.args.board.now c.args.direction c.args.from.number c.args.from.ok c.args.most c.loop-walked.seen c.loop-walked.walked
-    c.loop-walked.invariant c.loop-walked-test.true c.in_default.ensures
 
 pub returns-then-is_some : goal.returns-then-is_some
 returns-then-is_some c =
-    ap (bit_or c.loop-walked.seen) c.single-seen.ensures
-    ∙ seen-man c.args.board.now c.args.direction c.args.from.number c.args.from.ok c.args.most c.loop-walked.seen c.loop-walked.walked
-    c.loop-walked.invariant c.loop-walked-test.true c.in-Some.ensures.0 c.in-Some.next.number c.in-Some.ensures.1
-    (c.if-is_some.ensures ∙ ap is_some c.man_on.ensures)
+    let i = c.loop-next.invariant in
+    let w = ray_step (take_source c.loop-next.next-iterator) (take_source c.next.new.self) c.args.from c.args.direction i.from i.direction c.in-Some.next c.in-Some.ensures.steps.0 in
+    ap (bit_or c.loop-next.seen) c.single-seen.ensures
+    ∙ seen-man c.args.board.now c.args.direction c.args.from.number c.args.from.ok c.args.most c.loop-next.seen _
+    i.seen (omega (arith, i.count, c.in-Some.ensures.steps.1)) w.more c.in-Some.next.number w.at (c.if-is_some.ensures ∙ ap is_some c.man_on.ensures)
 
-pub loop-walked-preserved : goal.loop-walked-preserved
-loop-walked-preserved c =
-    rw c.single-seen.ensures
-    (seen-on c.args.board.now c.args.direction c.args.from.number c.args.from.ok c.args.most c.loop-walked.seen c.loop-walked.walked
-    c.loop-walked.invariant c.loop-walked-test.true c.in-Some.ensures.0 c.in-Some.next.number c.in-Some.ensures.1
-    (c.if-is_some.ensures ∙ ap is_some c.man_on.ensures))
+pub loop-next-preserved : goal.loop-next-preserved
+loop-next-preserved c =
+    let i = c.loop-next.invariant in
+    let w = ray_step (take_source c.loop-next.next-iterator) (take_source c.next.new.self) c.args.from c.args.direction i.from i.direction c.in-Some.next c.in-Some.ensures.steps.0 in
+    record {
+      count = omega (arith, i.count, c.in-Some.ensures.steps.1, w.walked);
+      from = w.from;
+      direction = w.direction;
+      seen = rw (w.walked, c.single-seen.ensures) (seen-on c.args.board.now c.args.direction c.args.from.number c.args.from.ok c.args.most c.loop-next.seen _
+          i.seen (omega (arith, i.count, c.in-Some.ensures.steps.1)) w.more c.in-Some.next.number w.at (c.if-is_some.ensures ∙ ap is_some c.man_on.ensures));
+    }
 
 pub returns : goal.returns
 returns c =
-    seen_all c.args.board.now c.args.direction c.args.from.number c.args.from.ok c.args.most c.loop-walked.seen c.loop-walked.walked
-    c.loop-walked.invariant c.loop-walked-test.false
+    let i = c.loop-next.invariant in
+    seen_end c.args.board.now c.args.direction c.args.from.number c.args.from.ok c.args.most c.loop-next.seen _ i.seen
+    (λ l. ray_end (take_source c.loop-next.next-iterator) (take_source c.next.new.self) c.args.from c.args.direction i.from i.direction (c.in-None.ensures.steps (omega (arith, i.count))))

@@ -1,27 +1,22 @@
+use Rattle.std.proofs.Common.{rules, tests, ◌≡◌, ℕ, map, ◌∙◌}
+use lib.Bits.{bit_or, or_zero_l}
+use Rattle.std.specs.List.{fold}
+use Rattle.std.proofs.lemmas.Iterator.{YieldsList-from_slice, YieldsList-from_map}
+use Rattle.std.proofs.lemmas.Iterator.Consumers.{fold_from_yields_List, YieldsList-at}
+use Rattle.board.specs.Squares.{directions}
+use Rattle.board.specs.Masks.{mask}
+use Rattle.board.specs.declared.direction.Direction.{Direction}
 use Rattle.board.proofs.Bits.{mask_append, or_assoc}
-use Rattle.chess_attacks.specs.Lists.{lines}
+use Rattle.chess_attacks.specs.Ranges.{range_of}
+use Rattle.chess_attacks.specs.Lists.{line, lines}
 use Rattle.chess_attacks.proofs.commands.lines.Goals as goal
 
 pub returns : goal.returns
 unfolding lines
 returns c =
-    simp (
-      mask_append,
-      or_assoc,
-      c.line.ensures,
-      c.line-2.ensures,
-      c.line-3.ensures,
-      c.line-4.ensures,
-      c.line-5.ensures,
-      c.line-6.ensures,
-      c.line-7.ensures,
-      c.line-8.ensures,
-      c.range.ensures,
-      c.range-2.ensures,
-      c.range-3.ensures,
-      c.range-4.ensures,
-      c.range-5.ensures,
-      c.range-6.ensures,
-      c.range-7.ensures,
-      c.range-8.ensures,
-    )
+    let word : Direction → ℕ = λ d. mask (line c.args.board.now d c.args.from.number (range_of c.args.man d)) in
+    let e : c.fold.result ≡ fold bit_or 0 (map word directions)
+    = fold_from_yields_List _ bit_or 0 c.fold.result c.fold.ensures.ran
+    (YieldsList-from_map _ word (YieldsList-at c.map.ensures.source (YieldsList-from_slice directions c.iter.ensures.rest)) c.map.ensures.closure (λ x r q k. search (rules, tests)))
+    (λ a x b q k. search (rules, tests)) in
+    e ∙ simp (mask_append, or_assoc, or_zero_l)

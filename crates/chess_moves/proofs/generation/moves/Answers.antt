@@ -5,10 +5,8 @@ use Rattle.chess_moves.proofs.Bound.{few-moves}
 use Rattle.chess_moves.proofs.Whole.{lists}
 use Rattle.chess_moves.proofs.generation.moves.Goals as goal
 
-pub returns : goal.returns
-returns c =
-    record {
-      cut = c.first_moves.ensures;
-      all = λ h k. c.first_moves.ensures ∙ take_all 415 (legal_moves c.args.diagram.now) (omega (arith, few-moves c.args.diagram.now h k));
-      legal = lists c.args.diagram.now;
-    }
+pub returns-clause-all : goal.returns-clause-all
+returns-clause-all c = λ h k. c.first_moves.ensures ∙ take_all 415 (legal_moves c.args.diagram.now) (omega (arith, few-moves c.args.diagram.now h k))
+
+pub returns-clause-legal : goal.returns-clause-legal
+returns-clause-legal c = lists c.args.diagram.now

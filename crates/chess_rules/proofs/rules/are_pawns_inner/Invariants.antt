@@ -2,5 +2,5 @@ use Rattle.std.proofs.Common.{◌≡◌, true}
 use Rattle.chess_rules.specs.Lawful.{pawns_inner}
 use Rattle.chess_rules.proofs.rules.are_pawns_inner.Given as goal
 
-abbrev pub invariant-loop-s : goal.invariant-loop-s
-invariant-loop-s l = pawns_inner l.board l.s ≡ true
+abbrev pub invariant-loop-square : goal.invariant-loop-square
+invariant-loop-square l = pawns_inner l.board l.square-iterator.next ≡ true

@@ -7,5 +7,5 @@ use Rattle.chess_rules.proofs.position.Position.after.Goals as goal
 pub invariant_of-result : goal.invariant_of-result
 invariant_of-result c = record {
   fair = ap lawful c.play.ensures
-      ∙ next_fair c.args.self.now.diagram c.args.self.now.fair (listed c.moves.result) c.moves.ensures.legal c.args.number c.in-Some.step (sym c.in-Some.ensures);
+      ∙ next_fair c.args.self.now.diagram c.args.self.now.fair (listed c.moves.result) c.moves.ensures.legal c.args.number c.in_ok-step.step (sym c.in_ok-step.ensures);
 }

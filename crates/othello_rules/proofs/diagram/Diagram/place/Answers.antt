@@ -1,7 +1,6 @@
 use Rattle.std.proofs.Common.{◌≡◌, true, false, Some, sym, ap, ◌∙◌, arith}
 use Rattle.board.specs.Masks.{mask}
-use Rattle.othello_rules.specs.Diagrams.{discs, opponent, placeable, placed}
-use Rattle.othello_rules.specs.declared.side.Side.{Side}
+use Rattle.othello_rules.specs.Diagrams.{placeable, placed}
 use Rattle.othello_rules.proofs.ByWords.{turns_none, turns_some, turns_flipped, placed_words}
 use Rattle.othello_rules.proofs.diagram.Diagram.place.Goals as goal
 
@@ -14,11 +13,11 @@ returns-then-turned-eq0 c =
 pub returns : goal.returns
 returns c =
     let d = c.args.self.now in let s = c.args.square.number in
-    let f : c.discs-other.result ≡ discs (opponent d.mover) d = c.discs-other.ensures ∙ ap (λ (m : Side). discs m d) c.opponent.ensures in
+    let r = c.roles-own.ensures in
     let m = c.turned-turned.ensures in
     let e : placeable d s ≡ true = turns_some d s (λ z. c.if-turned-eq0.false (m ∙ z)) in
     let p : c.moved.result ≡ placed d s =
     c.moved.ensures
-    ∙ placed_words d _ _ s c.discs-own.ensures f c.turned-turned.result c.single.result
+    ∙ placed_words d _ _ s r.own r.other c.turned-turned.result c.single.result
     (omega arith) (omega arith) (omega arith) (omega arith) (m ∙ ap mask (turns_flipped d s e)) c.single.ensures in
     simp e (ap Some p)

@@ -1,4 +1,3 @@
-pub mod Meeting
 pub mod Moves
 pub mod Backs
 pub mod Turns

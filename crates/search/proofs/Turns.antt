@@ -1,16 +1,18 @@
 -- The turns of the plain search, as facts of its model.
 use Rattle.std.proofs.Common.{◌≡◌, ℕ, zero, suc, ◌+◌, ◌<◌, ◌≤◌, Bool, true, false, cond, not, List, [], ◌∷◌, length, get_or, Ok, Err, Result as Answered, sym, refl, ap, ◌∙◌, arith}
-use mathlib.Core.Bool.{beq}
 use Rattle.game.specs.declared.decline.Decline.{Decline}
 use Rattle.game.specs.Tree.{Tree, Moves, node, none, move, state, rank, moves, successors, next, nowhere, minimax, some_won, all_won}
 use Rattle.game.specs.declared.state.State.{State}
 use Rattle.game.specs.declared.state.State.TheVariants.{Won, NotWon, Attacker, Defender}
+use Rattle.table.specs.declared.side.Side.{Side}
+use Rattle.table.specs.declared.side.Side.TheVariants.{Attacker as Attacks, Defender as Defends}
+use Rattle.table.specs.Pairs.{other}
 use Rattle.search.specs.declared.entry.Entry.{Entry}
 use Rattle.search.specs.declared.entry.Turn.{Turn}
 use Rattle.search.specs.declared.entry.Turn.TheVariants.{Look, Try, Back}
 use Rattle.search_laws.specs.Trial.{need, until_won, until_not_won}
 use Rattle.search.specs.Backs.{back}
-use Rattle.search.specs.Search.{skipped, Opened, opened, open_at, below, value, cost, alike, decides, Result, result, final, size, sizes, rest, work, Leads, Holds, Goes}
+use Rattle.search.specs.Search.{wins, skipped, Opened, opened, open_at, below, value, cost, alike, decides, Result, result, final, size, sizes, rest, work, Leads, Holds, Goes}
 use Rattle.search.proofs.Moves.{PlaySays, BackSays, PushSays, played, pushed}
 
 -- the positions by their states
@@ -50,19 +52,20 @@ size_is (node s r c m) = refl
 
 -- looking
 
-pub look-ended : (es : List Entry) (t : Tree) (ts : List Tree) (n : ℕ) (v : Bool)
-    → minimax t ≡ v → need t ≡ 0 → Goes Look es t ts n (Back v) es t ts n
+pub look-ended : (es : List Entry) (t : Tree) (ts : List Tree) (n : ℕ) (v : Side)
+    → minimax t ≡ wins v → need t ≡ 0 → Goes Look es t ts n (Back v) es t ts n
 unfolding Goes Holds work
 look-ended es t ts n v ev en t₀ ts₀ h =
     let z = size_is t in
     let e : n + need t ≡ n = omega arith in
-    ((h.1, sym (ap (λ b. final (below es ts) b (n + need t)) ev ∙ ap (final (below es ts) v) e) ∙ h.2), omega arith)
+    ((h.1, sym (ap (λ b. final (below es ts) b (n + need t)) ev ∙ ap (final (below es ts) (wins v)) e) ∙ h.2), omega arith)
 
-pub look_open : (es : List Entry) (t : Tree) (ts : List Tree) (n k : ℕ) (a : Bool)
-    → state t ≡ side a → k ≡ length (next t)
-    → Goes Look es t ts n (Try (record { next = 0; count = k; attacker = a })) es t ts (n + 1)
+pub look_open : (es : List Entry) (t : Tree) (ts : List Tree) (n k : ℕ) (s : Side)
+    → state t ≡ side (wins s) → k ≡ length (next t)
+    → Goes Look es t ts n (Try (record { next = 0; count = k; side = s })) es t ts (n + 1)
 unfolding Goes Holds work
-look_open es t ts n k a ea ek t₀ ts₀ h =
+look_open es t ts n k s ea ek t₀ ts₀ h =
+    let a = wins s in
     let f = open_facts t a ea in
     let z = size_is t in
     let e : n + need t ≡ (n + 1) + cost (opened a (moves t)) = omega arith in (
@@ -128,16 +131,20 @@ sizes-move : (x : List ℕ) (t : Tree) (m : Moves) → sizes (move x t m) ≡ 1 
 unfolding sizes
 sizes-move x t m = refl
 
-pub try_none : (e : Entry) (es : List Entry) (t : Tree) (ts : List Tree) (n : ℕ)
-    → e.count ≤ e.next → Goes (Try e) es t ts n (Back (not e.attacker)) es t ts n
+not_wins : (s : Side) → not (wins s) ≡ wins (other s)
+not_wins Attacks = refl
+not_wins Defends = refl
+
+pub try_none : (e : Entry) (es : List Entry) (t : Tree) (ts : List Tree) (n : ℕ) (v : Side)
+    → e.count ≤ e.next → v ≡ other e.side → Goes (Try e) es t ts n (Back v) es t ts n
 unfolding Goes Holds work
-try_none e es t ts n d t₀ ts₀ h =
+try_none e es t ts n v d o t₀ ts₀ h =
     let s = skipped_end (moves t) e.next (omega (arith, h.1)) in
-    let v = ap (λ m. value (opened e.attacker m)) s ∙ done-value e.attacker in
-    let k = ap (λ m. cost (opened e.attacker m)) s ∙ done-cost e.attacker in
+    let b = ap (λ m. value (opened (wins e.side) m)) s ∙ done-value (wins e.side) ∙ not_wins e.side ∙ ap wins (sym o) in
+    let k = ap (λ m. cost (opened (wins e.side) m)) s ∙ done-cost (wins e.side) in
     let w = ap sizes s ∙ sizes-none in
     let p : n + cost (open_at e t) ≡ n = omega arith in
-    ((h.2, sym (ap (λ b. final (below es ts) b (n + cost (open_at e t))) v ∙ ap (final (below es ts) (not e.attacker)) p) ∙ h.3), omega arith)
+    ((h.2, sym (ap (λ w. final (below es ts) w (n + cost (open_at e t))) b ∙ ap (final (below es ts) (wins v)) p) ∙ h.3), omega arith)
 
 -- the next move splits what is left
 split : (a : Bool) (fs : List Opened) (x : List ℕ) (u : Tree) (m : Moves) (n : ℕ) (b : Bool) → minimax u ≡ b
@@ -151,7 +158,7 @@ split false fs x u m n false e = rw e (ap (final fs false) (omega arith))
 module _ (e : Entry) (es : List Entry) (t : Tree) (ts : List Tree) (n : ℕ) (more : e.next < e.count)
     (falls : (i : ℕ) → i < length (next t) → rank (get_or (next t) i nowhere) < rank t) where
   abbrev waiting : Entry
-  waiting = record { next = e.next + 1; count = e.count; attacker = e.attacker }
+  waiting = record { next = e.next + 1; count = e.count; side = e.side }
 
   try_move_lem : Goes (Try e) es t ts n Look (waiting ∷ es) (get_or (next t) e.next nowhere) (t ∷ ts) n
   unfolding Goes Holds work below rest Leads
@@ -164,7 +171,7 @@ module _ (e : Entry) (es : List Entry) (t : Tree) (ts : List Tree) (n : ℕ) (mo
       let m = skipped (e.next + 1) (moves t) in
       let s = (skipped_at (moves t) e.next d).1 ∙ ap (λ k. move x u (skipped k (moves t))) one in
       let w = ap sizes s ∙ sizes-move x u m in
-      let a = e.attacker in
+      let a = wins e.side in
       let p = ap (λ m'. final (below es ts) (value (opened a m')) (n + cost (opened a m'))) s ∙ split a (below es ts) x u m n (minimax u) refl in
       ((omega arith, (h.0, h.1, h.2), sym p ∙ h.3), omega arith)
 
@@ -181,12 +188,12 @@ module _ (e : Entry) (es : List Entry) (t : Tree) (ts : List Tree) (n : ℕ) (mo
 
 -- coming back
 
-module _ (e : Entry) (es : List Entry) (t t' : Tree) (ts ts' : List Tree) (n : ℕ) (v : Bool) where
-  back_decides : alike e.attacker v ≡ true → Goes (Back v) (e ∷ es) t (t' ∷ ts') n (Back v) es t' ts' n
+module _ (e : Entry) (es : List Entry) (t t' : Tree) (ts ts' : List Tree) (n : ℕ) (v : Side) where
+  back_decides : alike (wins e.side) (wins v) ≡ true → Goes (Back v) (e ∷ es) t (t' ∷ ts') n (Back v) es t' ts' n
   unfolding Goes Holds work below rest Leads final
   back_decides d t₀ ts₀ h = ((h.0.2, rw d at h.1), omega arith)
 
-  back_on : alike e.attacker v ≡ false → Goes (Back v) (e ∷ es) t (t' ∷ ts') n (Try e) es t' ts' n
+  back_on : alike (wins e.side) (wins v) ≡ false → Goes (Back v) (e ∷ es) t (t' ∷ ts') n (Try e) es t' ts' n
   unfolding Goes Holds work below rest Leads final
   back_on d t₀ ts₀ h = ((h.0.0, h.0.1, h.0.2, rw d at h.1), omega arith)
 
@@ -198,18 +205,30 @@ module _ (e : Entry) (es : List Entry) (t t' : Tree) (ts ts' : List Tree) (n : �
   came (Err x) s h k t₀ ts₀ l = let p = h.0 in let n : Leads (e ∷ es) t [] t₀ ts₀ = rw p at l.0 in absurd n
 
   pub came_decided : {X : Type 0} (o : Answered X Decline) → BackSays t ts t' ts' o
-      → alike e.attacker v ≡ true → Goes (Back v) (e ∷ es) t ts n (Back v) es t' ts' n
+      → alike (wins e.side) (wins v) ≡ true → Goes (Back v) (e ∷ es) t ts n (Back v) es t' ts' n
   came_decided o h d = came o (Back v) h (back_decides d)
 
   pub came_on : {X : Type 0} (o : Answered X Decline) → BackSays t ts t' ts' o
-      → alike e.attacker v ≡ false → Goes (Back v) (e ∷ es) t ts n (Try e) es t' ts' n
+      → alike (wins e.side) (wins v) ≡ false → Goes (Back v) (e ∷ es) t ts n (Try e) es t' ts' n
   came_on o h d = came o (Try e) h (back_on d)
 
-pub beq-alike : (v a b : Bool) → beq v a ≡ b → alike a v ≡ b
-beq-alike true true b e = e
-beq-alike true false b e = e
-beq-alike false true b e = e
-beq-alike false false b e = e
+pub wins_by : (s : Side) (b : Bool) → (b ≡ true → s ≡ Attacks) → (b ≡ false → s ≡ Attacks → ⊥) → b ≡ wins s
+wins_by Attacks true f g = refl
+wins_by Attacks false f g = absurd (g refl refl)
+wins_by Defends true f g = let e = f refl in let z : ◌≡◌ {A = ℕ} 0 1 = cc in absurd (omega arith)
+wins_by Defends false f g = refl
+
+pub alike_same : (v s : Side) → v ≡ s → alike (wins s) (wins v) ≡ true
+alike_same Attacks Attacks e = refl
+alike_same Defends Defends e = refl
+alike_same Attacks Defends e = let z : ◌≡◌ {A = ℕ} 0 1 = cc in absurd (omega arith)
+alike_same Defends Attacks e = let z : ◌≡◌ {A = ℕ} 0 1 = cc in absurd (omega arith)
+
+pub alike_other : (v s : Side) → (v ≡ s → ⊥) → alike (wins s) (wins v) ≡ false
+alike_other Attacks Attacks n = absurd (n refl)
+alike_other Defends Defends n = absurd (n refl)
+alike_other Attacks Defends n = refl
+alike_other Defends Attacks n = refl
 
 -- the loops
 
@@ -236,8 +255,8 @@ pub at-look : (s : Turn) (es : List Entry) (t : Tree) (ts : List Tree) (n : ℕ)
 unfolding Holds
 at-look s es t ts n t₀ ts₀ p h = let k : Holds Look es t ts n t₀ ts₀ = rw p at h in (k, k.1)
 
-pub search_ended : (s : Turn) (es : List Entry) (t : Tree) (ts : List Tree) (n : ℕ) (v : Bool) (t₀ : Tree) (ts₀ : List Tree)
-    → s ≡ Back v → es ≡ [] → Holds s es t ts n t₀ ts₀ → (t ≡ t₀) × (ts ≡ ts₀) × (v ≡ minimax t₀) × (n ≡ need t₀)
+pub search_ended : (s : Turn) (es : List Entry) (t : Tree) (ts : List Tree) (n : ℕ) (v : Side) (t₀ : Tree) (ts₀ : List Tree)
+    → s ≡ Back v → es ≡ [] → Holds s es t ts n t₀ ts₀ → (t ≡ t₀) × (ts ≡ ts₀) × (wins v ≡ minimax t₀) × (n ≡ need t₀)
 unfolding Holds Leads below final
 search_ended s es t ts n v t₀ ts₀ p q h =
     let k : Holds (Back v) [] t ts n t₀ ts₀ = rw (p, q) at h in

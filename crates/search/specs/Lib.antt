@@ -3,3 +3,4 @@ pub mod Plain
 pub mod Search
 pub mod Machine
 pub mod Finishes
+pub mod Known

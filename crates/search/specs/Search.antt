@@ -1,6 +1,8 @@
 -- What the plain search still has to do, from its stack and its path.
 use Rattle.std.specs.Prelude.{◌≡◌, ℕ, zero, suc, ◌+◌, ◌<◌, ◌≤◌, Bool, true, false, cond, List, [], ◌∷◌, length}
 use Rattle.game.specs.Tree.{Tree, Moves, node, none, move, rank, moves, next, minimax, some_won, all_won}
+use Rattle.table.specs.declared.side.Side.{Side}
+use Rattle.table.specs.declared.side.Side.TheVariants.{Attacker as Attacks, Defender as Defends}
 use Rattle.search.specs.declared.entry.Entry.{Entry}
 use Rattle.search.specs.declared.entry.Turn.{Turn}
 use Rattle.search.specs.declared.entry.Turn.TheVariants.{Look, Try, Back}
@@ -12,12 +14,17 @@ skipped zero m = m
 skipped (suc i) none = none
 skipped (suc i) (move x t m) = skipped i m
 
+-- whether this side is the attacker: whose position is won if the attacker has it, and who is to move
+abbrev pub wins : Side → Bool
+wins Attacks = true
+wins Defends = false
+
 -- a position under way: whether the attacker is to move there, and the moves not yet tried
 pub data Opened : Type 0 where
   opened : Bool → Moves → Opened
 
 abbrev pub open_at : Entry → Tree → Opened
-open_at e t = opened e.attacker (skipped e.next (moves t))
+open_at e t = opened (wins e.side) (skipped e.next (moves t))
 
 unfoldable pub below : List Entry → List Tree → List Opened
 below [] ts = []
@@ -68,7 +75,7 @@ rest (f ∷ fs) = 2 + sizes (untried f) + rest fs
 unfoldable pub work : Turn → List Entry → Tree → List Tree → ℕ
 work Look es t ts = size t + rest (below es ts)
 work (Try e) es t ts = 2 + sizes (untried (open_at e t)) + rest (below es ts)
-work (Back v) es t ts = 1 + rest (below es ts)
+work (Back s) es t ts = 1 + rest (below es ts)
 
 -- the path leads back to the start; its ranks leave room on the stack, and its entries know their moves' number
 unfoldable pub Leads : List Entry → Tree → List Tree → Tree → List Tree → Type 0
@@ -86,7 +93,7 @@ Holds Look es t ts n t₀ ts₀ =
 Holds (Try e) es t ts n t₀ ts₀ =
     (rank t + length es ≤ 32) × (e.count ≡ length (next t)) × Leads es t ts t₀ ts₀
     × (final (below es ts) (value (open_at e t)) (n + cost (open_at e t)) ≡ goal t₀)
-Holds (Back v) es t ts n t₀ ts₀ = Leads es t ts t₀ ts₀ × (final (below es ts) v n ≡ goal t₀)
+Holds (Back s) es t ts n t₀ ts₀ = Leads es t ts t₀ ts₀ × (final (below es ts) (wins s) n ≡ goal t₀)
 
 -- a turn of the search: it still fits, and less is left to do
 unfoldable pub Goes : Turn → List Entry → Tree → List Tree → ℕ → Turn → List Entry → Tree → List Tree → ℕ → Type 0

@@ -10,8 +10,8 @@ pub(crate) fn side_of(state: State) -> Side
     ensures { result ≡ mover state }
 {
     match state {
+        State::Won | State::NotWon | State::Attacker => Side::Attacker,
         State::Defender => Side::Defender,
-        _ => Side::Attacker,
     }
 }
 

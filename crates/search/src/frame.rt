@@ -2,7 +2,7 @@ use search_laws::Thresholds;
 use table::{Pair, Side};
 
 // A frame of the run: where its successors' pairs stand in the records, its thresholds, the side to move, and the number of the
-// successor that it has taken.
+// successor that it has taken. The two bounds are no `Range`, which is not `Copy`, as an entry of the stack must be.
 #[derive(Clone, Copy)]
 pub(crate) struct Frame {
     pub base: usize,
@@ -22,9 +22,9 @@ pub(crate) enum Step {
     Back(Pair),
 }
 
-// How a run ended: for want of an expansion, or with the start position's pair and so many expansions left.
+// What a run gives where it is not stopped for want of an expansion: the start position's pair, and how many expansions are left.
 #[derive(Clone, Copy)]
-pub(crate) enum Finish {
-    Stopped,
-    Gave { left: u32, pair: Pair },
+pub(crate) struct Given {
+    pub left: u32,
+    pub pair: Pair,
 }

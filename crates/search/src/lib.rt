@@ -1,12 +1,16 @@
 #![tactic(auto)]
 
 mod attempt;
+mod budget;
 mod choice;
 mod entry;
 mod frame;
 mod listing;
 mod plain;
 mod proof_number;
+mod records;
 mod unwind;
 
-pub use attempt::{MOST, RECORDS, trial};
+pub use attempt::{trial, try_position};
+pub use budget::{Budget, MOST};
+pub use records::{RECORDS, Records};

@@ -1,22 +1,27 @@
 ghost use Rattle.std.specs.Prelude.{◌≡◌, ◌<◌, map, length, slice_index_or};
 ghost use Rattle.game.specs.Tree.{Tree, nowhere, next};
 ghost use Rattle.search_laws.specs.Run.{listed};
+ghost use Rattle.search.specs.Known.{known_pair};
 
 use game::{Game, State};
 use table::{Pair, Table};
 
-// The pair of the game's position when it is listed: decided if it has ended, else the table's, else (1, 1).
+// The pair that is known of the game's position: decided if it has ended, else the table's, if it holds one.
+pub(crate) fn known_pair<G: Game, T: Table>(game: &G, table: &T) -> Option<Pair>
+    ensures { result ≡ known_pair (T.held table.now) (G.current game.now) }
+{
+    match game.state() {
+        State::Won => Some(Pair::WON),
+        State::NotWon => Some(Pair::NOT_WON),
+        State::Attacker | State::Defender => table.look_up(&game.code()),
+    }
+}
+
+// The pair of the game's position when it is listed: what is known of it, else (1, 1).
 fn listed_pair<G: Game, T: Table>(game: &G, table: &T) -> Pair
     ensures { result ≡ listed (T.held table.now) (G.current game.now) }
 {
-    match game.state() {
-        State::Won => Pair::WON,
-        State::NotWon => Pair::NOT_WON,
-        _ => match table.look_up(&game.code()) {
-            Some(pair) => pair,
-            None => Pair::FRESH,
-        },
-    }
+    known_pair(game, table).unwrap_or(Pair::FRESH)
 }
 
 // The listed pair of the successor number i.
@@ -26,9 +31,9 @@ fn listed_move<G: Game, T: Table>(game: &mut G, table: &T, i: usize) -> Pair
     ensures path { G.earlier game.new ≡ G.earlier game.old }
     ensures pair { result ≡ listed (T.held table.now) (slice_index_or (next (G.current game.old)) i nowhere) }
 {
-    let _ = game.play(i);
+    game.play(i).unwrap();
     let pair = listed_pair(game, table);
-    let _ = game.take_back();
+    game.take_back().unwrap();
     pair
 }
 
@@ -39,7 +44,7 @@ pub(crate) fn list_pairs<G: Game, T: Table>(game: &mut G, table: &T, places: &mu
     ensures path { G.earlier game.new ≡ G.earlier game.old }
     ensures pairs { places.new ≡ map (listed (T.held table.now)) (next (G.current game.old)) }
 {
-    for i in 0..places.len() {
-        places[i] = listed_move(game, table, i);
+    for (i, place) in places.iter_mut().enumerate() {
+        *place = listed_move(game, table, i);
     }
 }

@@ -11,12 +11,13 @@ use crate::entry::{Entry, Found, Turn};
 use crate::unwind::take_all_back;
 use game::{Game, State};
 use stack::Stack;
+use table::Side;
 
-// What stands in a free place of the stack.
+// What stands in a free place of the stack. No `Default`: a side has none, and the constant says the same in one place.
 const NO_ENTRY: Entry = Entry {
     next: 0,
     count: 0,
-    attacker: false,
+    side: Side::Attacker,
 };
 
 // Looks at the current position: its value where it has ended, else its entry, which is counted, or nothing where the share is spent.
@@ -27,11 +28,11 @@ fn look<G: Game>(game: &G, entries: &mut u32, share: u32) -> Option<Turn>
         turn es (G.current game.now) (G.earlier game.now) entries.new) }
     ensures within { entries.old ≤ share → entries.new ≤ share }
 {
-    let attacker = match game.state() {
-        State::Won => return Some(Turn::Back(true)),
-        State::NotWon => return Some(Turn::Back(false)),
-        State::Attacker => true,
-        State::Defender => false,
+    let side = match game.state() {
+        State::Won => return Some(Turn::Back(Side::Attacker)),
+        State::NotWon => return Some(Turn::Back(Side::Defender)),
+        State::Attacker => Side::Attacker,
+        State::Defender => Side::Defender,
     };
     if *entries >= share {
         return None;
@@ -40,11 +41,12 @@ fn look<G: Game>(game: &G, entries: &mut u32, share: u32) -> Option<Turn>
     Some(Turn::Try(Entry {
         next: 0,
         count: game.count(),
-        attacker,
+        side,
     }))
 }
 
-// Tries the next move of the current position's entry, or goes back where none is left.
+// Tries the next move of the current position's entry, or goes back where none is left. The stack's room is asked here, since a stack is
+// over a lent slice of any length. The contract is of any stack and path, so it is not known here that the push and the play succeed.
 fn try_next<G: Game>(game: &mut G, stack: &mut Stack<'_, Entry>, entry: Entry) -> Turn
     requires { room stack.old ≡ 32 }
     ensures goes { (n : ℕ) → Goes (Try entry) (contents stack.old) (G.current game.old) (G.earlier game.old) n
@@ -52,7 +54,7 @@ fn try_next<G: Game>(game: &mut G, stack: &mut Stack<'_, Entry>, entry: Entry) -
     ensures room { room stack.new ≡ 32 }
 {
     if entry.next >= entry.count {
-        return Turn::Back(!entry.attacker);
+        return Turn::Back(entry.side.other());
     }
     let _ = stack.push(Entry {
         next: entry.next + 1,
@@ -62,14 +64,15 @@ fn try_next<G: Game>(game: &mut G, stack: &mut Stack<'_, Entry>, entry: Entry) -
     Turn::Look
 }
 
-// Goes back to an entry's position with the value of the current one.
-fn come_back<G: Game>(game: &mut G, entry: Entry, won: bool) -> Turn
-    ensures { (es : List Kept) (n : ℕ) → Goes (Back won) (entry ∷ es) (G.current game.old) (G.earlier game.old) n
+// Goes back to an entry's position with the side that has the current one. The contract is of any path, so it is not known here that there
+// is a move to take back.
+fn come_back<G: Game>(game: &mut G, entry: Entry, winner: Side) -> Turn
+    ensures { (es : List Kept) (n : ℕ) → Goes (Back winner) (entry ∷ es) (G.current game.old) (G.earlier game.old) n
         result es (G.current game.new) (G.earlier game.new) n }
 {
     let _ = game.take_back();
-    if won == entry.attacker {
-        return Turn::Back(won);
+    if winner == entry.side {
+        return Turn::Back(winner);
     }
     Turn::Try(entry)
 }
@@ -84,6 +87,8 @@ pub(crate) fn plain_search<G: Game>(game: &mut G, share: u32) -> Option<Found>
     let mut stack = Stack::new(&mut room);
     let mut entries = 0;
     let mut turn = Turn::Look;
+    // A switch on what comes next, and no recursion: the positions before the current one lie on the stack over a lent slice, by the
+    // project's rules.
     loop {
         turn = match turn {
             Turn::Look => match look(game, &mut entries, share) {
@@ -94,9 +99,14 @@ pub(crate) fn plain_search<G: Game>(game: &mut G, share: u32) -> Option<Found>
                 }
             },
             Turn::Try(entry) => try_next(game, &mut stack, entry),
-            Turn::Back(won) => match stack.pop() {
-                Some(entry) => come_back(game, entry, won),
-                None => return Some(Found { won, entries }),
+            Turn::Back(winner) => match stack.pop() {
+                Some(entry) => come_back(game, entry, winner),
+                None => {
+                    return Some(Found {
+                        won: winner == Side::Attacker,
+                        entries,
+                    });
+                }
             },
         };
     }

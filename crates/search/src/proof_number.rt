@@ -10,15 +10,16 @@ ghost use Rattle.search.specs.Machine.{free, Goes};
 ghost use Rattle.search.specs.Finishes.{Finished};
 
 use crate::choice::{hand_down, has_reached, side_of};
-use crate::frame::{Finish, Frame, Step};
+use crate::frame::{Frame, Given, Step};
 use crate::listing::list_pairs;
+use crate::records::Records;
 use crate::unwind::take_all_back;
 use game::Game;
 use search_laws::Thresholds;
 use stack::Stack;
 use table::{Figures, Pair, Side, TOP, Table};
 
-// What stands in a free place of the stack.
+// What stands in a free place of the stack. No `Default`: a side has none, and the constant says the same in one place.
 const NO_FRAME: Frame = Frame {
     base: 0,
     end: 0,
@@ -34,10 +35,7 @@ const NO_FRAME: Frame = Frame {
 fn first_free(stack: &Stack<'_, Frame>) -> usize
     ensures { result ≡ free (contents stack.now) }
 {
-    match stack.top() {
-        Some(frame) => frame.end,
-        None => 0,
-    }
+    stack.top().map_or(0, |frame| frame.end)
 }
 
 // Enters the current position: lists its successors' pairs in the records from `base` on, and makes its frame.
@@ -65,6 +63,7 @@ fn enter<G: Game, T: Table>(
 }
 
 // Hands a pair to a frame that waited for it: goes back to the frame's position, and writes its record of the successor that it has taken.
+// The contract is of any path, so it is not known here that there is a move to take back.
 fn hand_back<G: Game>(game: &mut G, records: &mut [Pair], frame: Frame, pair: Pair)
     requires { frame.base + frame.chosen < length records.old }
     ensures rewrites { records.new ≡ slice_set records.old (frame.base + frame.chosen) pair }
@@ -76,7 +75,9 @@ fn hand_back<G: Game>(game: &mut G, records: &mut [Pair], frame: Frame, pair: Pa
     records[frame.base + frame.chosen] = pair;
 }
 
-// Looks at the current position's frame: with a threshold reached it stores its pair and hands it on, else it takes a successor.
+// Looks at the current position's frame: with a threshold reached it stores its pair and hands it on, else it takes a successor. The
+// stack's room is asked here, since a stack is over a lent slice of any length. The contract is of any stack and path, so it is not known
+// here that the push and the play succeed.
 fn work<G: Game, T: Table>(
     game: &mut G,
     table: &mut T,
@@ -108,14 +109,13 @@ fn work<G: Game, T: Table>(
     Step::Enter(thresholds)
 }
 
-// Runs on the current position with so many expansions.
+// Runs on the current position with so many expansions: `None` where they are not enough.
 pub(crate) fn run<G: Game, T: Table>(
     game: &mut G,
     table: &mut T,
     left: u32,
-    records: &mut [Pair],
-) -> Finish
-    requires { 6144 ≤ length records.old }
+    records: &mut Records,
+) -> Option<Given>
     ensures at { G.current game.new ≡ G.current game.old }
     ensures path { G.earlier game.new ≡ G.earlier game.old }
     ensures run { Finished T.Table.stored (T.held table.old) left (G.current game.old) result (T.held table.new) }
@@ -127,12 +127,13 @@ pub(crate) fn run<G: Game, T: Table>(
         proof: TOP,
         disproof: TOP,
     });
+    // A switch on what comes next, and no recursion: the frames that wait lie on the stack over a lent slice, by the project's rules.
     loop {
         step = match step {
             Step::Enter(thresholds) => {
                 if rest == 0 {
                     take_all_back(game, &mut stack);
-                    return Finish::Stopped;
+                    return None;
                 }
                 rest -= 1;
                 Step::Work(enter(game, table, records, first_free(&stack), thresholds))
@@ -143,7 +144,7 @@ pub(crate) fn run<G: Game, T: Table>(
                     hand_back(game, records, frame, pair);
                     Step::Work(frame)
                 }
-                None => return Finish::Gave { left: rest, pair },
+                None => return Some(Given { left: rest, pair }),
             },
         };
     }

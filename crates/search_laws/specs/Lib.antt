@@ -3,3 +3,4 @@ pub mod Trial
 pub mod Claims
 pub mod Calls
 pub mod Examples
+pub mod Words

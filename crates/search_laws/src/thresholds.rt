@@ -1,4 +1,4 @@
-// The thresholds of a frame: it works on until its proof number or its disproof number has reached the one or the other.
+/// The thresholds of a frame: it works on until its proof number or its disproof number has reached the one or the other.
 #[derive(Clone, Copy)]
 pub struct Thresholds {
     pub proof: u32,

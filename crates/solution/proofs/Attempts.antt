@@ -1,7 +1,9 @@
 -- Trials of all moves, one after another.
-use Rattle.std.proofs.Common.{◌≡◌, ℕ, zero, suc, ◌+◌, ◌<◌, ◌≤◌, Bool, true, false, List, [], ◌∷◌, ◌++◌, length, get_or, take, set, Some, None, sym, refl, ap, ◌∙◌, subst, append_assoc, append-nil, arith}
+use Rattle.std.proofs.Common.{◌≡◌, ℕ, zero, suc, ◌+◌, ◌*◌, ◌<◌, ◌≤◌, Bool, true, false, List, [], ◌∷◌, ◌++◌, length, get_or, take, set, Ok, Err, Some, None, Option, sym, refl, ap, ◌∙◌, subst, append_assoc, append-nil, suc-mul, Result, arith}
 use Rattle.std.proofs.lemmas.List.{take_more_set}
-use Rattle.game.specs.Tree.{Tree, Moves, none, move, nowhere, successors, texts}
+use Rattle.std.proofs.ByRecursion.{All-get_or}
+use Rattle.game.specs.Rules.{Rules}
+use Rattle.game.specs.Tree.{Tree, Moves, none, move, nowhere, successors, texts, Reading, next, rank}
 use Rattle.table.specs.Pairs.{Held}
 use Rattle.search_laws.specs.declared.answer.Verdict.{Verdict}
 use Rattle.search_laws.specs.declared.answer.Verdict.TheVariants as verdict
@@ -10,41 +12,44 @@ use Rattle.search_laws.specs.Run.{Storing}
 use Rattle.search_laws.specs.Trial.{Trial, at_once, by_the_run, by_the_search, verdict_of}
 use Rattle.search_laws.specs.Trial as trial
 use Rattle.solution_laws.specs.Solution.{AllTried, no_more, tried, Stops, spent, later, cost, first_win, onward}
-use Rattle.solution.specs.Attempts.{value_of}
+use Rattle.solution.specs.declared.stop.Stop.{Stop}
+use Rattle.solution.specs.declared.stop.Stop.TheVariants.{Spent}
+use Rattle.solution.specs.Attempts.{value_of, Adds, Attempted}
+use Rattle.std.specs.Result.{IsErrAnd}
+use Rattle.std.specs.List.{position, position_from}
+use Rattle.std.proofs.lemmas.Iterator.Adapters.{position_from-zero}
 use Rattle.solution_laws.proofs.Clash.{clash}
 
-pub value-won : (v : Verdict) (w : Bool) → value_of v ≡ Some w → v ≡ verdict_of w
+pub value-won : (v : Verdict) (w : Bool) → value_of v ≡ Ok w → v ≡ verdict_of w
 value-won verdict.Won true e = refl
 value-won verdict.Won false e = clash (cc)
 value-won verdict.NotWon true e = clash (cc)
 value-won verdict.NotWon false e = refl
 value-won verdict.Spent w e = clash (cc)
 
-pub value-spent : (v : Verdict) → value_of v ≡ None → v ≡ verdict.Spent
-value-spent verdict.Won e = clash (cc)
-value-spent verdict.NotWon e = clash (cc)
-value-spent verdict.Spent e = refl
+pub value-spent : (v : Verdict) (stop : Stop) → value_of v ≡ Err stop → (v ≡ verdict.Spent) × (stop ≡ Spent)
+value-spent verdict.Won stop e = clash (cc)
+value-spent verdict.NotWon stop e = clash (cc)
+value-spent verdict.Spent stop e = (refl, (cc))
+
+few-moves : (n r depth width : ℕ) → n ≤ width → r ≤ depth → depth * width ≤ 6144 → (0 < n → 0 < r) → n ≤ 6144
+few-moves zero r depth width a b c d = omega arith
+few-moves (suc n) r zero width a b c d = let h = d (omega arith) in absurd (omega arith)
+few-moves (suc n) r (suc depth) width a b c d = let h = suc-mul depth width in omega arith
+
+-- a position has at most 6,144 moves
+pub few : {start : Tree} {positions : Tree → Type 0} {depth width : ℕ} {reading : List ℕ → ℕ → Reading} → Rules start positions depth width reading
+    → (t : Tree) → positions t → length (next t) ≤ 6144
+few {depth = depth} {width = width} rules t p =
+    few-moves (length (next t)) (rank t) depth width (rules.narrow t p) (rules.shallow t p) rules.small
+    (λ l. let h = All-get_or (λ u. rank u < rank t) (next t) 0 nowhere l (rules.falls t p) in omega arith)
 
 -- a trial costs no more than its budget
-pub affordable : {stored : Storing} {held : Held} {t : Tree} {b : ℕ} {a : Answer} {held' : Held} → Trial stored held t b a held' → cost a ≤ b
+affordable : {stored : Storing} {held : Held} {t : Tree} {b : ℕ} {a : Answer} {held' : Held} → Trial stored held t b a held' → cost a ≤ b
 affordable (at_once k) = omega arith
 affordable {b = b} (by_the_run k r d) = omega arith
 affordable {b = b} (by_the_search k r n) = omega arith
 affordable {b = b} (trial.spent k r n) = omega arith
-
--- the first move that wins
-pub first-at : (ws : List Bool) (i : ℕ) → ((k : ℕ) → k < i → get_or ws k false ≡ false) → get_or ws i false ≡ true → first_win ws ≡ Some i
-first-at [] zero h e = clash (cc)
-first-at [] (suc i) h e = clash (cc)
-first-at (true ∷ ws) zero h e = refl
-first-at (false ∷ ws) zero h e = clash (cc)
-first-at (true ∷ ws) (suc i) h e = clash (let z = h 0 (omega arith) in cc)
-first-at (false ∷ ws) (suc i) h e = ap onward (first-at ws i (λ k l. h (suc k) (omega arith)) e)
-
-pub first_no : (ws : List Bool) → ((k : ℕ) → k < length ws → get_or ws k false ≡ false) → first_win ws ≡ None
-first_no [] h = refl
-first_no (true ∷ ws) h = clash (let z = h 0 (omega arith) in cc)
-first_no (false ∷ ws) h = ap onward (first_no ws (λ k l. h (suc k) (omega arith)))
 
 -- the moves from number i on
 unfoldable pub beyond : ℕ → Moves → Moves
@@ -66,52 +71,92 @@ beyond_end zero (move x t m) l = absurd (omega arith)
 beyond_end (suc i) none l = refl
 beyond_end (suc i) (move x t m) l = beyond_end i m (omega arith)
 
--- before the move of number i: how the other moves' trials go on is how all go on
-pub record Trying (stored : Storing) (b : ℕ) (held : Held) (m : Moves) (i : ℕ) (flags : List Bool) (sum : ℕ) (held' : Held) : Type 0 where
-  pub all : (ws : List Bool) (n : ℕ) (h : Held) → AllTried stored b held' (beyond i m) ws n h → AllTried stored b held m (take i flags ++ ws) (sum + n) h
-  pub stop : (n : ℕ) (h : Held) → Stops stored b held' (beyond i m) n h → Stops stored b held m (sum + n) h
+-- Before the move of number i: the sum so far, from n to n', and how the other moves' trials go on is how all go on.
+pub record Trying (stored : Storing) (b : ℕ) (held : Held) (m : Moves) (n : ℕ) (i : ℕ) (flags : List Bool) (held' : Held) (n' : ℕ) : Type 0 where
+  pub so_far : ℕ
+  pub sum : n' ≡ n + so_far
+  pub bound : so_far ≤ 99999999 * i
+  pub all : (ws : List Bool) (k : ℕ) (h : Held) → AllTried stored b held' (beyond i m) ws k h → AllTried stored b held m (take i flags ++ ws) (so_far + k) h
+  pub stop : (k : ℕ) (h : Held) → Stops stored b held' (beyond i m) k h → Stops stored b held m (so_far + k) h
 
-module _ (stored : Storing) (b : ℕ) (held : Held) (m : Moves) where
-  pub trying_start : (flags : List Bool) → Trying stored b held m 0 flags 0 held
+module _ (stored : Storing) (b : ℕ) (held : Held) (m : Moves) (n : ℕ) where
+  pub trying_start : (flags : List Bool) → Trying stored b held m n 0 flags held n
   unfolding beyond
   trying_start flags = record {
-    all = λ ws n h a. subst (λ (k : ℕ). AllTried stored b held m ws k h) (let e : n ≡ 0 + n = omega arith in e) a;
-    stop = λ n h a. subst (λ (k : ℕ). Stops stored b held m k h) (let e : n ≡ 0 + n = omega arith in e) a;
+    so_far = 0;
+    sum = omega arith;
+    bound = omega arith;
+    all = λ ws k h a. subst (λ (x : ℕ). AllTried stored b held m ws x h) (let e : k ≡ 0 + k = omega arith in e) a;
+    stop = λ k h a. subst (λ (x : ℕ). Stops stored b held m x h) (let e : k ≡ 0 + k = omega arith in e) a;
   }
 
-  pub trying_next : (i : ℕ) (flags : List Bool) (sum : ℕ) (h h' : Held) (a : Answer) (w : Bool) → i < length (successors m) → i < length flags
-      → Trying stored b held m i flags sum h → Trial stored h (get_or (successors m) i nowhere) b a h' → a.verdict ≡ verdict_of w
-      → Trying stored b held m (i + 1) (set flags i w) (sum + cost a) h'
-  trying_next i flags sum h h' a w l f t r v =
-      let e = beyond-next i m l in
-      let p : suc i ≡ i + 1 = omega arith in
+  module _ (i : ℕ) (flags : List Bool) (n' : ℕ) (h h' : Held) (a : Answer) (low : i < length (successors m)) (small : b ≤ 99999999)
+      (t : Trying stored b held m n i flags h n') (r : Trial stored h (get_or (successors m) i nowhere) b a h') where
+    pub trying_next : (w : Bool) → i < length flags → a.verdict ≡ verdict_of w → Trying stored b held m n (i + 1) (set flags i w) h' (n' + cost a)
+    trying_next w f v =
+        let e = beyond-next i m low in
+        let p : suc i ≡ i + 1 = omega arith in
+        record {
+          so_far = t.so_far + cost a;
+          sum = omega (arith, t.sum);
+          bound = omega (arith, t.bound, affordable r);
+          all = λ ws k z x.
+              let x' = subst (λ (j : ℕ). AllTried stored b h' (beyond j m) ws k z) (sym p) x in
+              let y = t.all (w ∷ ws) (cost a + k) z (subst (λ (q : Moves). AllTried stored b h q (w ∷ ws) (cost a + k) z) (sym e) (tried r v x')) in
+              let s : t.so_far + (cost a + k) ≡ (t.so_far + cost a) + k = omega arith in
+              let u : take i flags ++ (w ∷ ws) ≡ take (i + 1) (set flags i w) ++ ws = sym (append_assoc (take i flags) (w ∷ []) ws) ∙ ap (λ (q : List Bool). q ++ ws) (sym (take_more_set flags i w f)) in
+              subst (λ (q : List Bool). AllTried stored b held m q ((t.so_far + cost a) + k) z) u (subst (λ (q : ℕ). AllTried stored b held m (take i flags ++ (w ∷ ws)) q z) s y);
+          stop = λ k z x.
+              let x' = subst (λ (j : ℕ). Stops stored b h' (beyond j m) k z) (sym p) x in
+              let y = t.stop (cost a + k) z (subst (λ (q : Moves). Stops stored b h q (cost a + k) z) (sym e) (later w r v x')) in
+              let s : t.so_far + (cost a + k) ≡ (t.so_far + cost a) + k = omega arith in
+              subst (λ (q : ℕ). Stops stored b held m q z) s y;
+        }
+
+    pub trying_stop : a.verdict ≡ verdict.Spent → length (successors m) ≤ 6144 → Adds (λ k. Stops stored b held m k h') n (n' + cost a)
+    trying_stop v few = record {
+      cost = t.so_far + cost a;
+      sum = omega (arith, t.sum);
+      bound = omega (arith, t.bound, affordable r);
+      holds = t.stop (cost a) h' (subst (λ (q : Moves). Stops stored b h q (cost a) h') (sym (beyond-next i m low)) (spent r v));
+    }
+
+  pub trying_end : (i : ℕ) (flags : List Bool) (n' : ℕ) (h : Held) → length (successors m) ≤ 6144 → i ≡ length (successors m) → Trying stored b held m n i flags h n'
+      → Adds (λ k. AllTried stored b held m (take (length (successors m)) flags) k h) n n'
+  trying_end i flags n' h few l t =
+      let y = t.all [] 0 h (subst (λ (q : Moves). AllTried stored b h q [] 0 h) (sym (beyond_end i m (omega arith))) no_more) in
+      let s : t.so_far + 0 ≡ t.so_far = omega arith in
       record {
-        all = λ ws n k z.
-            let z' = subst (λ (j : ℕ). AllTried stored b h' (beyond j m) ws n k) (sym p) z in
-            let y = t.all (w ∷ ws) (cost a + n) k (subst (λ (q : Moves). AllTried stored b h q (w ∷ ws) (cost a + n) k) (sym e) (tried r v z')) in
-            let s : sum + (cost a + n) ≡ (sum + cost a) + n = omega arith in
-            let u : take i flags ++ (w ∷ ws) ≡ take (i + 1) (set flags i w) ++ ws = sym (append_assoc (take i flags) (w ∷ []) ws) ∙ ap (λ (q : List Bool). q ++ ws) (sym (take_more_set flags i w f)) in
-            subst (λ (q : List Bool). AllTried stored b held m q ((sum + cost a) + n) k) u (subst (λ (q : ℕ). AllTried stored b held m (take i flags ++ (w ∷ ws)) q k) s y);
-        stop = λ n k z.
-            let z' = subst (λ (j : ℕ). Stops stored b h' (beyond j m) n k) (sym p) z in
-            let y = t.stop (cost a + n) k (subst (λ (q : Moves). Stops stored b h q (cost a + n) k) (sym e) (later w r v z')) in
-            let s : sum + (cost a + n) ≡ (sum + cost a) + n = omega arith in
-            subst (λ (q : ℕ). Stops stored b held m q k) s y;
+        cost = t.so_far;
+        sum = t.sum;
+        bound = omega (arith, t.bound);
+        holds = subst (λ (j : ℕ). AllTried stored b held m (take j flags) t.so_far h) l (subst (λ (q : List Bool). AllTried stored b held m q t.so_far h) (append-nil (take i flags)) (subst (λ (q : ℕ). AllTried stored b held m (take i flags ++ []) q h) s y));
       }
 
-  pub trying_stop : (i : ℕ) (flags : List Bool) (sum : ℕ) (h h' : Held) (a : Answer) → i < length (successors m)
-      → Trying stored b held m i flags sum h → Trial stored h (get_or (successors m) i nowhere) b a h' → a.verdict ≡ verdict.Spent → Stops stored b held m (sum + cost a) h'
-  trying_stop i flags sum h h' a l t r v =
-      t.stop (cost a) h' (subst (λ (q : Moves). Stops stored b h q (cost a) h') (sym (beyond-next i m l)) (spent r v))
+pub attempt_spent : {stored : Storing} {b : ℕ} {held held' : Held} {m : Moves} (ws : List Bool) {n n' : ℕ} (r : Result (Unit {0}) Stop) (stop : Stop) → stop ≡ Spent
+    → IsErrAnd r (λ e. e ≡ stop) → Adds (λ k. Stops stored b held m k held') n n' → Attempted stored b held m ws n r held' n'
+attempt_spent ws (Ok u) stop s h a = elim h [ ]
+attempt_spent ws (Err e) stop s h a = (h ∙ s, a)
 
-  pub trying_end : (i : ℕ) (flags : List Bool) (sum : ℕ) (h : Held) → length (successors m) ≤ i → Trying stored b held m i flags sum h → AllTried stored b held m (take i flags) sum h
-  trying_end i flags sum h l t =
-      let y = t.all [] 0 h (subst (λ (q : Moves). AllTried stored b h q [] 0 h) (sym (beyond_end i m l)) no_more) in
-      let s : sum + 0 ≡ sum = omega arith in
-      subst (λ (q : List Bool). AllTried stored b held m q sum h) (append-nil (take i flags)) (subst (λ (q : ℕ). AllTried stored b held m (take i flags ++ []) q h) s y)
+map_in : (ℕ → ℕ) → Option ℕ → Option ℕ
+map_in f None = None
+map_in f (Some i) = Some (f i)
 
-pub past_end : (ws : List Bool) (i : ℕ) → length ws ≤ i → get_or ws i false ≡ false
-past_end [] zero l = refl
-past_end [] (suc i) l = refl
-past_end (w ∷ ws) zero l = absurd (omega arith)
-past_end (w ∷ ws) (suc i) l = past_end ws i (omega arith)
+-- the first move that wins is at the first flag that is set
+from-first : (ws : List Bool) (n : ℕ) → position_from (λ (w : Bool). w) n ws ≡ map_in (λ (i : ℕ). n + i) (first_win ws)
+unfolding map_in
+from-first [] n = refl
+from-first (true ∷ ws) n = ap Some (let e : n ≡ n + 0 = omega arith in e)
+from-first (false ∷ ws) n = from-first ws (n + 1) ∙ shift (first_win ws)
+  where
+    shift : (o : Option ℕ) → map_in (λ (i : ℕ). (n + 1) + i) o ≡ map_in (λ (i : ℕ). n + i) (onward o)
+    shift None = refl
+    shift (Some i) = ap Some (let e : (n + 1) + i ≡ n + suc i = omega arith in e)
+
+pub position_first_win : (ws : List Bool) → position (λ (w : Bool). w) ws ≡ first_win ws
+unfolding map_in
+position_first_win ws = position_from-zero (λ (w : Bool). w) ws ∙ from-first ws 0 ∙ same (first_win ws)
+  where
+    same : (o : Option ℕ) → map_in (λ (i : ℕ). 0 + i) o ≡ o
+    same None = refl
+    same (Some i) = ap Some (let e : 0 + i ≡ i = omega arith in e)

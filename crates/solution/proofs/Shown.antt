@@ -1,29 +1,34 @@
 -- The lines of a solution in the buffer, and what its answer means.
-use Rattle.std.proofs.Common.{◌≡◌, ℕ, suc, ◌+◌, ◌*◌, ◌/◌, ◌%◌, ◌≤◌, Bool, true, false, cond, not, ◌||◌, eqb, ltb, leb, List, [], ◌∷◌, ◌++◌, length, take, drop, Some, None, sym, refl, ap, ◌∙◌, subst, ap₂, append_assoc, arith, length-append, length-drop}
+use Rattle.std.proofs.Common.{◌≡◌, ℕ, suc, ◌+◌, ◌*◌, ◌/◌, ◌%◌, ◌≤◌, Bool, true, false, cond, not, ◌||◌, eqb, ltb, leb, List, [], ◌∷◌, ◌++◌, length, take, drop, Some, None, Ok, Err, Result, sym, refl, ap, ◌∙◌, subst, ap₂, append_assoc, arith, length-append, length-drop}
 use Rattle.std.specs.List.{AllByRecursion}
+use Rattle.std.specs.Result.{IsErrAnd}
+use Rattle.std.proofs.lemmas.Bool.{le-ltb, ltb-false}
 use Rattle.std.proofs.lemmas.List.{drop-drop, take_at, drop_at}
+use Rattle.game.specs.declared.decline.Decline.{Decline}
 use Rattle.game.specs.declared.decline.Decline.TheVariants.{Budget, Records, Buffer, NotAttacker, MoveNumber}
 use Rattle.game.specs.declared.state.State.{State}
 use Rattle.game.specs.declared.state.State.TheVariants as states
 use Rattle.game.specs.Tree.{Tree, state, next}
+use Rattle.table.specs.declared.pair.Pair.{Pair}
 use Rattle.table.specs.Pairs.{Held}
 use Rattle.search_laws.specs.Run.{Storing}
 use Rattle.solution_laws.specs.Lines.{Line, bytes, all_bytes, lines_in, written_over, keys, duals, Fits}
 use Rattle.solution_laws.specs.Solution.{Solves}
 use Rattle.solution_laws.specs.Claims.{AttacksWin, KeysHaveLines, SolutionsAreRight, SpentIsMeant, SolutionsFit}
 use Rattle.solution_laws.proofs.Fitting.{lines_are_read_lem}
-use Rattle.solution.specs.declared.tally.Tally.{Tally}
-use Rattle.solution.specs.declared.stretch.Stretch.{Stretch}
+use Rattle.solution_laws.specs.declared.ending.Ending.{Ending}
+use Rattle.solution.specs.declared.page.Page.{Page}
+use Rattle.solution.specs.declared.stop.Stop.{Stop}
+use Rattle.solution.specs.Stops.{ending_of}
 use Rattle.solution.specs.declared.answer.Solution.{Solution}
 use Rattle.solution.specs.Pages.{put, laid, room}
 use Rattle.solution.specs.Following.{Followed}
-use Rattle.solution.specs.Calls.{is_attacker, declined, Solved, Means}
+use Rattle.solution.specs.Calls.{is_attacker, declined, Solved, Answered, Means, Right}
 
 -- lines laid from place n on
 
 laid_from : (ls : List Line) (n : ℕ) (front rest : List ℕ) → AllByRecursion Fits ls → length front ≡ 8 * n → 8 * length ls ≤ length rest
     → laid ls n (front ++ rest) ≡ front ++ (all_bytes ls ++ drop (8 * length ls) rest)
-unfolding laid
 laid_from [] n front rest f e l = refl
 laid_from (l ∷ ls) n front rest f e h =
     let bl : length (bytes l) ≡ 8 = omega (arith, f.0.1) in
@@ -40,25 +45,42 @@ laid_from (l ∷ ls) n front rest f e h =
 laid-over : (ls : List Line) (buffer : List ℕ) → AllByRecursion Fits ls → length ls ≤ length buffer / 8 → laid ls 0 buffer ≡ written_over ls buffer
 laid-over ls buffer f h = laid_from ls 0 [] buffer f refl (omega arith)
 
-abbrev blank : Tally
-blank = record { lines = 0; keys = 0; duals = 0 }
-
-pub shown : (positions : Tree → Type 0) (stored : Storing) (b i : ℕ) (t : Tree) (held : Held) (buffer : List ℕ) (s : Stretch) (held' : Held) (buffer' : List ℕ) (tally' : Tally)
-    → SolutionsFit positions stored → positions t → Followed stored b 1 (Some i) t held buffer blank s held' buffer' tally'
-    → Solved stored held t i b buffer (record { ending = s.ending; lines = tally'.lines; keys = tally'.keys; duals = tally'.duals; sum = s.sum }) held' buffer'
-shown positions stored b i t held buffer s held' buffer' tally' fit pt f =
-    let e : room buffer blank ≡ length buffer / 8 = omega arith in
-    let w = f.written.tally in
+pub shown : (positions : Tree → Type 0) (stored : Storing) (b i : ℕ) (t : Tree) (held : Held) (page : Page) (r : Result (Unit {0}) Stop) (held' : Held) (page' : Page) (n n' : ℕ) (e : Ending)
+    → SolutionsFit positions stored → positions t → page.lines ≡ 0 → page.keys ≡ 0 → page.duals ≡ 0 → n ≡ 0 → e ≡ ending_of r
+    → Followed stored b 1 (Some i) t held page n r held' page' n'
+    → Solved stored held t i b page.buffer.now (record { ending = e; lines = page'.lines; keys = page'.keys; duals = page'.duals; sum = n' }) held' page'.buffer.now
+shown positions stored b i t held page r held' page' n n' e fit pt zl zk zd zn en f =
+    let m : room page ≡ length page.buffer.now / 8 = omega arith in
+    let w = f.written in
     record {
       part = f.part;
-      solves = subst (λ (x : ℕ). Solves stored b 1 (Some i) t held x f.part held') e f.solves;
-      ending = f.ending;
-      lines = ap (λ (x : Tally). x.lines) w ∙ (let q : 0 + length f.part.lines ≡ length f.part.lines = omega arith in q);
-      keys = ap (λ (x : Tally). x.keys) w ∙ (let q : 0 + keys f.part.lines ≡ keys f.part.lines = omega arith in q);
-      duals = ap (λ (x : Tally). x.duals) w ∙ (let q : 0 + duals f.part.lines ≡ duals f.part.lines = omega arith in q);
-      sum = f.sum;
-      shown = f.written.shown ∙ laid-over f.part.lines buffer (fit held t b i (room buffer blank) f.part held' pt f.solves) (omega (arith, f.fits));
+      solves = subst (λ (x : ℕ). Solves stored b 1 (Some i) t held x f.part held') m f.solves;
+      ending = en ∙ f.ending;
+      lines = omega (arith, w.lines);
+      keys = omega (arith, w.keys);
+      duals = omega (arith, w.duals);
+      sum = omega (arith, f.sum);
+      shown = w.shown ∙ ap (λ (x : ℕ). laid f.part.lines x page.buffer.now) zl ∙ laid-over f.part.lines page.buffer.now (fit held t b i (room page) f.part held' pt f.solves) (omega (arith, f.fits));
     }
+
+-- what is checked of a position, the intended move and the buffer, where the budget and the records are taken
+pub accepted : (t : Tree) (i b n l : ℕ) → b ≤ 99999999 → 6144 ≤ n → declined t i b n l ≡ declined t i 0 6144 l
+accepted t i b n l e m = ap₂ (λ (x y : Bool). cond x (Some Budget) (cond y (Some Records) (declined t i 0 6144 l))) (le-ltb 99999999 b e) (le-ltb n 6144 m)
+
+-- the buffer is then none that is too long
+pub short : (t : Tree) (i l : ℕ) → declined t i 0 6144 l ≡ None → l ≤ 32768
+short t i l e = ltb-false 32768 l (go (not (eqb (l % 8) 0)) (ltb 32768 l) (is_attacker (state t)) (leb (length (next t)) i) e)
+  where
+    go : (d x m k : Bool) → cond (d || x) (Some Buffer) (cond (not m) (Some NotAttacker) (cond k (Some MoveNumber) None)) ≡ None → x ≡ false
+    go false false m k e = refl
+    go false true m k e = cc
+    go true x m k e = cc
+
+pub refused : (positions : Tree → Type 0) (stored : Storing) (held : Held) (t : Tree) (i b : ℕ) (rs rs' : List Pair) (buffer : List ℕ) (r : Result Solution Decline) (d : Decline)
+    → IsErrAnd r (λ x. x ≡ d) → declined t i b (length rs) (length buffer) ≡ Some d → rs' ≡ rs
+    → Answered stored held t i b rs buffer r held rs' buffer × Right positions held t b r held buffer
+refused positions stored held t i b rs rs' buffer (Ok a) d e n s = elim e [ ]
+refused positions stored held t i b rs rs' buffer (Err x) d e n s = ((n ∙ ap Some (sym e), refl, s, refl), refl)
 
 -- a solution that is not declined starts with the attacker to move
 

@@ -1,45 +1,40 @@
 -- What the program does at a position of a solution.
-use Rattle.std.specs.Prelude.{◌≡◌, ℕ, ◌+◌, ◌*◌, ◌<◌, ◌≤◌, Bool, true, false, List, length, Some, Option}
-use Rattle.game.specs.Tree.{Tree, moves, next, words}
+use Rattle.std.specs.Prelude.{◌≡◌, ℕ, ◌+◌, ◌*◌, ◌<◌, ◌≤◌, List, Bool, length, Some, None, Ok, Err, Option, Result}
+use Rattle.game.specs.Tree.{Tree, rank, moves, next, words}
 use Rattle.table.specs.Pairs.{Held}
 use Rattle.search_laws.specs.Run.{Storing}
 use Rattle.solution_laws.specs.Solution.{AllTried, best, wins, Part, Solves}
-use Rattle.solution_laws.specs.declared.ending.Ending.{Ending}
-use Rattle.solution_laws.specs.declared.ending.Ending.TheVariants as endings
-use Rattle.solution.specs.declared.tally.Tally.{Tally}
-use Rattle.solution.specs.declared.stretch.Stretch.{Stretch}
-use Rattle.solution.specs.declared.stretch.Attack.{Attack}
-use Rattle.solution.specs.declared.stretch.Attack.TheVariants.{Over, On}
+use Rattle.solution.specs.declared.page.Page.{Page}
+use Rattle.solution.specs.declared.stop.Stop.{Stop}
+use Rattle.solution.specs.Stops.{ending_of}
+use Rattle.solution.specs.Attempts.{most, Adds}
 use Rattle.solution.specs.Pages.{room, Written, Writes}
 
--- the cost of 6,144 trials, each with the largest budget
-abbrev pub most : ℕ
-most = 614399993856
+-- At a position whose moves have this ply: the plies still to come have two digits, and what the trials so far cost fits its word.
+pub record Ready (k : ℕ) (t : Tree) (page : Page) (n : ℕ) : Type 0 where
+  pub ply : k + rank t ≤ 33
+  pub sum : n ≤ most * page.lines
 
--- a part of a solution is made, and its lines are written
-pub record Followed (stored : Storing) (b k : ℕ) (i : Option ℕ) (t : Tree) (held : Held) (buffer : List ℕ) (tally : Tally) (s : Stretch) (held' : Held) (buffer' : List ℕ) (tally' : Tally) : Type 0 where
+-- a part of a solution is made, and its lines are written; its cost is added to the sum
+pub record Followed (stored : Storing) (b k : ℕ) (i : Option ℕ) (t : Tree) (held : Held) (page : Page) (n : ℕ) (r : Result (Unit {0}) Stop) (held' : Held) (page' : Page) (n' : ℕ) : Type 0 where
   pub part : Part
-  pub solves : Solves stored b k i t held (room buffer tally) part held'
-  pub ending : s.ending ≡ part.ending
-  pub sum : s.sum ≡ part.sum
-  pub written : Written part.lines buffer tally buffer' tally'
-  pub fits : length part.lines ≤ room buffer tally
+  pub solves : Solves stored b k i t held (room page) part held'
+  pub ending : ending_of r ≡ part.ending
+  pub sum : n' ≡ n + part.sum
+  pub written : Written part.lines page page'
+  pub fits : length part.lines ≤ room page
   pub bound : part.sum ≤ most * (length part.lines + 1)
 
--- the attacker's lines at a position are written
-pub record Attacked (stored : Storing) (b k : ℕ) (i : Option ℕ) (t : Tree) (held : Held) (buffer : List ℕ) (tally : Tally) (j n : ℕ) (held' : Held) (buffer' : List ℕ) (tally' : Tally) : Type 0 where
+-- the attacker's lines at a position are written, with the move of number j for the one that is followed
+pub record Attacked (stored : Storing) (b k : ℕ) (i : Option ℕ) (t : Tree) (held : Held) (page : Page) (n j : ℕ) (held' : Held) (page' : Page) (n' : ℕ) : Type 0 where
   pub flags : List Bool
-  pub tried : AllTried stored b held (moves t) flags n held'
+  pub tried : Adds (λ c. AllTried stored b held (moves t) flags c held') n n'
   pub chosen : best i flags ≡ Some j
   pub number : j < length (next t)
-  pub writes : Writes (wins k j flags (words t)) buffer tally true buffer' tally'
-  pub bound : n ≤ most
+  pub writes : Writes (wins k j flags (words t)) page (Ok tt) page'
 
-abbrev pub Attacks : Storing → ℕ → ℕ → Option ℕ → Tree → Held → List ℕ → Tally → Attack → Held → List ℕ → Tally → Type 0
-Attacks stored b k i t held buffer tally (Over s) held' buffer' tally' = Followed stored b k i t held buffer tally s held' buffer' tally'
-Attacks stored b k i t held buffer tally (On j n) held' buffer' tally' = Attacked stored b k i t held buffer tally j n held' buffer' tally'
-
-abbrev pub done : Ending → Bool
-done endings.Done = true
-done endings.Spent = false
-done endings.Cut = false
+-- the attacker's lines are written, or the part ends here
+abbrev pub Attacks : Storing → ℕ → ℕ → Option ℕ → Tree → Held → Page → ℕ → Result (Option ℕ) Stop → Held → Page → ℕ → Type 0
+Attacks stored b k i t held page n (Ok (Some j)) held' page' n' = Attacked stored b k i t held page n j held' page' n'
+Attacks stored b k i t held page n (Ok None) held' page' n' = Followed stored b k i t held page n (Ok tt) held' page' n'
+Attacks stored b k i t held page n (Err stop) held' page' n' = Followed stored b k i t held page n (Err stop) held' page' n'

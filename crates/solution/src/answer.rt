@@ -1,6 +1,7 @@
 use solution_laws::Ending;
 
-// What a solution answers: how it ended, the lines written, among them the keys and the duals, and the sum of all expansions and entries.
+/// What a solution answers: how it ended, how many lines are written, among them how many keys and duals, and the sum of all expansions and
+/// entries.
 #[derive(Clone, Copy, PartialEq, Eq, Debug)]
 pub struct Solution {
     pub ending: Ending,

@@ -1,96 +1,70 @@
-ghost use Rattle.std.specs.Prelude.{◌≡◌, ◌≤◌, length};
-ghost use Rattle.solution.specs.Calls.{is_attacker, declined, Solved, Answered, Right};
+ghost use Rattle.std.specs.Prelude.{◌≡◌, ◌≤◌, length, Some, None, MatchResult};
+ghost use Rattle.solution.specs.Calls.{declined, Solved, Answered, Right};
 
 use crate::answer::Solution;
-use crate::follow::follow;
-use crate::tally::Tally;
+use crate::page::Page;
+use crate::solver::Solver;
 use game::{Decline, Game, State};
-use search::{MOST, RECORDS};
+use search::{Budget, RECORDS, Records};
 use table::{Pair, Table};
 
-// The largest buffer.
+/// The length in bytes of the largest buffer.
 pub const BYTES: usize = 32_768;
 
-fn attacks(state: State) -> bool
-    ensures { result ≡ is_attacker state }
+/// Whether a solution with a buffer of so many bytes is made, and if not, why.
+fn accept<G: Game>(game: &G, intended: usize, bytes: usize) -> Result<(), Decline>
+    ensures { MatchResult result
+        (λ _. declined (G.current game.now) intended 0 6144 bytes ≡ None)
+        (λ cause. declined (G.current game.now) intended 0 6144 bytes ≡ Some cause) }
 {
-    match state {
-        State::Attacker => true,
-        _ => false,
-    }
-}
-
-// Why a solution is declined, if it is.
-fn refusal<G: Game>(
-    game: &G,
-    intended: usize,
-    budget: u32,
-    records: usize,
-    bytes: usize,
-) -> Option<Decline>
-    ensures { result ≡ declined (G.current game.now) intended budget records bytes }
-{
-    if budget > MOST {
-        return Some(Decline::Budget);
-    }
-    if records < RECORDS {
-        return Some(Decline::Records);
-    }
     if bytes % 8 != 0 || bytes > BYTES {
-        return Some(Decline::Buffer);
+        return Err(Decline::Buffer);
     }
-    if !attacks(game.state()) {
-        return Some(Decline::NotAttacker);
+    if game.state() != State::Attacker {
+        return Err(Decline::NotAttacker);
     }
     if game.count() <= intended {
-        return Some(Decline::MoveNumber);
+        return Err(Decline::MoveNumber);
     }
-    None
+    Ok(())
 }
 
-// Makes the solution of the current position, and writes its lines.
+/// Makes the solution of the current position, and writes its lines. It takes what `solve` takes: here that becomes a solver and a page.
 fn write_solution<G: Game, T: Table>(
     game: &mut G,
     table: &mut T,
     intended: usize,
-    budget: u32,
-    records: &mut [Pair],
+    budget: Budget,
+    records: &mut Records,
     buffer: &mut [u8],
 ) -> Solution
-    requires budget { budget ≤ 99999999 }
-    requires records { 6144 ≤ length records.old }
-    requires buffer { length buffer.old ≤ 32768 }
+    requires { length buffer.old ≤ 32768 }
     ensures at { G.current game.new ≡ G.current game.old }
     ensures path { G.earlier game.new ≡ G.earlier game.old }
-    ensures solved { Solved T.Table.stored (T.held table.old) (G.current game.old) intended budget buffer.old result (T.held table.new) buffer.new }
+    ensures solved { Solved T.Table.stored (T.held table.old) (G.current game.old) intended budget.amount buffer.old result (T.held table.new) buffer.new }
 {
-    let mut flags = [false; RECORDS];
-    let mut tally = Tally {
+    let mut page = Page {
+        buffer,
         lines: 0,
         keys: 0,
         duals: 0,
     };
-    let stretch = follow(
+    let mut solver = Solver {
         game,
         table,
-        1,
-        Some(intended),
         budget,
         records,
-        &mut flags,
-        buffer,
-        &mut tally,
-    );
-    Solution {
-        ending: stretch.ending,
-        lines: tally.lines,
-        keys: tally.keys,
-        duals: tally.duals,
-        sum: stretch.sum,
-    }
+        flags: [false; RECORDS],
+        sum: 0,
+    };
+    solver.finish(&mut page, intended)
 }
 
-// The solution of the current position, which must be the attacker's: its lines are written into the buffer.
+/// The solution of the current position, from the table, with the intended move's number, each trial's budget and the records that trials
+/// may use: its lines, eight bytes each, are written into the buffer from its start on. Declined, with nothing changed, in this order:
+/// `Budget` where the budget is above 99,999,999, `Records` where there are fewer than 6,144 of them, `Buffer` where the buffer's length is
+/// no multiple of 8 or over 32,768, `NotAttacker` where the attacker is not to move, `MoveNumber` where the intended move's number is not
+/// below the count of moves.
 pub fn solve<G: Game, T: Table>(
     game: &mut G,
     table: &mut T,
@@ -104,8 +78,10 @@ pub fn solve<G: Game, T: Table>(
     ensures answered { Answered T.Table.stored (T.held table.old) (G.current game.old) intended budget records.old buffer.old result (T.held table.new) records.new buffer.new }
     ensures right { Right G.Game.positions (T.held table.old) (G.current game.old) budget result (T.held table.new) buffer.new }
 {
-    if let Some(cause) = refusal(game, intended, budget, records.len(), buffer.len()) {
-        return Err(cause);
-    }
+    let budget = Budget::new(budget)?;
+    let Some(records) = records.first_chunk_mut() else {
+        return Err(Decline::Records);
+    };
+    accept(game, intended, buffer.len())?;
     Ok(write_solution(game, table, intended, budget, records, buffer))
 }

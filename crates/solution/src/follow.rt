@@ -1,238 +1,125 @@
 ghost use Rattle.std.specs.Prelude.{◌≡◌, ℕ, ◌+◌, ◌<◌, ◌≤◌, length, None, Option, slice_index_or};
 ghost use Rattle.game.specs.declared.state.State.TheVariants.{Attacker, Defender};
-ghost use Rattle.game.specs.Tree.{nowhere, state, rank, next};
-ghost use Rattle.solution.specs.Pages.{Fair};
-ghost use Rattle.solution.specs.Following.{Followed, Attacks, done};
+ghost use Rattle.game.specs.Tree.{nowhere, state, next};
+ghost use Rattle.solution.specs.Solvers.{Stays};
+ghost use Rattle.solution.specs.Following.{Ready, Followed, Attacks};
+ghost use Rattle.solution.specs.Calls.{Solved};
 
-use crate::attempt::{best_move, try_moves};
-use crate::stretch::{Attack, Stretch};
-use crate::tally::Tally;
-use crate::write::{write_move, write_wins};
+use crate::answer::Solution;
+use crate::attempt::best_move;
+use crate::page::Page;
+use crate::solver::Solver;
+use crate::stop::{Stop, ending_of};
 use game::{Game, State};
-use solution_laws::{Ending, Sign};
-use table::{Pair, Table};
+use solution_laws::Sign;
+use table::Table;
 
-// Tries all moves of an attacker's position, and writes its lines.
-fn attack<G: Game, T: Table>(
-    game: &mut G,
-    table: &mut T,
-    ply: u8,
-    intended: Option<usize>,
-    budget: u32,
-    records: &mut [Pair],
-    flags: &mut [bool],
-    buffer: &mut [u8],
-    tally: &mut Tally,
-) -> Attack
-    requires records { 6144 ≤ length records.old }
-    requires flags { 6144 ≤ length flags.old }
-    requires budget { budget ≤ 99999999 }
-    requires fair { Fair tally.old }
-    requires ply { ply < 100 }
-    requires attacker { state (G.current game.old) ≡ Attacker }
-    ensures at { G.current game.new ≡ G.current game.old }
-    ensures path { G.earlier game.new ≡ G.earlier game.old }
-    ensures attacks { Attacks T.Table.stored budget ply intended (G.current game.old) (T.held table.old) buffer.old tally.old result (T.held table.new) buffer.new tally.new }
-{
-    let attempt = try_moves(game, table, budget, records, flags);
-    if attempt.spent {
-        return Attack::Over(Stretch {
-            ending: Ending::Spent,
-            sum: attempt.sum,
-        });
+// `Ready` relates the ply to the position and to the sum, which change with each move, so the functions ask it and no type keeps it.
+impl<'g, 't, 'r, G: Game, T: Table> Solver<'g, 't, 'r, G, T> {
+    /// Tries all moves of an attacker's position, and writes its lines: which move is followed, if one wins.
+    fn attack(
+        &mut self,
+        page: &mut Page<'_>,
+        ply: u8,
+        intended: Option<usize>,
+    ) -> Result<Option<usize>, Stop>
+        requires ready { Ready ply (G.current self.old.game.now) page.old self.old.sum }
+        requires attacker { state (G.current self.old.game.now) ≡ Attacker }
+        ensures stays { Stays G.current G.earlier self.old self.new }
+        ensures attacks { Attacks T.Table.stored self.old.budget.amount ply intended (G.current self.old.game.now) (T.held self.old.table.now) page.old self.old.sum result (T.held self.new.table.now) page.new self.new.sum }
+    {
+        self.try_moves()?;
+        let won = &self.flags[..self.game.count()];
+        let Some(chosen) = best_move(intended, won) else {
+            return Ok(None);
+        };
+        page.write_wins(self.game, ply, chosen, won)?;
+        Ok(Some(chosen))
     }
-    let won = &flags[..game.count()];
-    match best_move(intended, won) {
-        None => Attack::Over(Stretch {
-            ending: Ending::Done,
-            sum: attempt.sum,
-        }),
-        Some(chosen) => {
-            if write_wins(game, buffer, tally, ply, chosen, won) {
-                return Attack::On {
-                    chosen,
-                    sum: attempt.sum,
-                };
-            }
-            Attack::Over(Stretch {
-                ending: Ending::Cut,
-                sum: attempt.sum,
-            })
+
+    /// Writes what comes after a move: plays it, writes what comes at its successor, and takes it back.
+    #[cycle(follow)]
+    fn follow_move(&mut self, page: &mut Page<'_>, ply: u8, i: usize) -> Result<(), Stop>
+        requires ready { Ready ply (G.current self.old.game.now) page.old self.old.sum }
+        requires number { i < length (next (G.current self.old.game.now)) }
+        ensures stays { Stays G.current G.earlier self.old self.new }
+        ensures follows { Followed T.Table.stored self.old.budget.amount (ply + 1) None (slice_index_or (next (G.current self.old.game.now)) i nowhere) (T.held self.old.table.now) page.old self.old.sum result (T.held self.new.table.now) page.new self.new.sum }
+    {
+        self.game.play(i).unwrap();
+        let after = self.follow(page, ply + 1, None);
+        self.game.take_back().unwrap();
+        after
+    }
+
+    /// Writes what comes at an attacker's position: its lines, and then what comes after the move that is followed.
+    #[cycle(follow)]
+    fn follow_best(
+        &mut self,
+        page: &mut Page<'_>,
+        ply: u8,
+        intended: Option<usize>,
+    ) -> Result<(), Stop>
+        requires ready { Ready ply (G.current self.old.game.now) page.old self.old.sum }
+        requires attacker { state (G.current self.old.game.now) ≡ Attacker }
+        ensures stays { Stays G.current G.earlier self.old self.new }
+        ensures follows { Followed T.Table.stored self.old.budget.amount ply intended (G.current self.old.game.now) (T.held self.old.table.now) page.old self.old.sum result (T.held self.new.table.now) page.new self.new.sum }
+    {
+        match self.attack(page, ply, intended)? {
+            Some(chosen) => self.follow_move(page, ply, chosen),
+            None => Ok(()),
         }
     }
-}
 
-fn is_done(ending: Ending) -> bool
-    ensures { result ≡ done ending }
-{
-    match ending {
-        Ending::Done => true,
-        Ending::Spent => false,
-        Ending::Cut => false,
+    /// Writes what comes at a defender's position: for each move a line, and then what comes after it.
+    #[cycle(follow)]
+    fn follow_replies(&mut self, page: &mut Page<'_>, ply: u8) -> Result<(), Stop>
+        requires ready { Ready ply (G.current self.old.game.now) page.old self.old.sum }
+        requires defender { state (G.current self.old.game.now) ≡ Defender }
+        ensures stays { Stays G.current G.earlier self.old self.new }
+        ensures follows { (i : Option ℕ) → Followed T.Table.stored self.old.budget.amount ply i (G.current self.old.game.now) (T.held self.old.table.now) page.old self.old.sum result (T.held self.new.table.now) page.new self.new.sum }
+    {
+        // the loop counts moves: it plays number i
+        for i in 0..self.game.count() {
+            page.write_move(self.game, ply, Sign::Reply, i)?;
+            self.follow_move(page, ply, i)?;
+        }
+        Ok(())
     }
-}
 
-// Writes what comes after a move: plays it, writes what comes at its successor, and takes it back.
-#[cycle(follow_follow_best_follow_move_follow_replies)]
-fn follow_move<G: Game, T: Table>(
-    game: &mut G,
-    table: &mut T,
-    ply: u8,
-    i: usize,
-    budget: u32,
-    records: &mut [Pair],
-    flags: &mut [bool],
-    buffer: &mut [u8],
-    tally: &mut Tally,
-) -> Stretch
-    requires records { 6144 ≤ length records.old }
-    requires flags { 6144 ≤ length flags.old }
-    requires budget { budget ≤ 99999999 }
-    requires fair { Fair tally.old }
-    requires ply { ply + rank (G.current game.old) ≤ 33 }
-    requires buffer { length buffer.old ≤ 32768 }
-    requires number { i < length (next (G.current game.old)) }
-    ensures at { G.current game.new ≡ G.current game.old }
-    ensures path { G.earlier game.new ≡ G.earlier game.old }
-    ensures follows { Followed T.Table.stored budget (ply + 1) None (slice_index_or (next (G.current game.old)) i nowhere) (T.held table.old) buffer.old tally.old result (T.held table.new) buffer.new tally.new }
-{
-    let _ = game.play(i);
-    let after = follow(
-        game,
-        table,
-        ply + 1,
-        None,
-        budget,
-        records,
-        flags,
-        buffer,
-        tally,
-    );
-    let _ = game.take_back();
-    after
-}
-
-// Writes what comes at an attacker's position: its lines, and then what comes after the chosen move.
-#[cycle(follow_follow_best_follow_move_follow_replies)]
-fn follow_best<G: Game, T: Table>(
-    game: &mut G,
-    table: &mut T,
-    ply: u8,
-    intended: Option<usize>,
-    budget: u32,
-    records: &mut [Pair],
-    flags: &mut [bool],
-    buffer: &mut [u8],
-    tally: &mut Tally,
-) -> Stretch
-    requires records { 6144 ≤ length records.old }
-    requires flags { 6144 ≤ length flags.old }
-    requires budget { budget ≤ 99999999 }
-    requires fair { Fair tally.old }
-    requires ply { ply + rank (G.current game.old) ≤ 33 }
-    requires buffer { length buffer.old ≤ 32768 }
-    requires attacker { state (G.current game.old) ≡ Attacker }
-    ensures at { G.current game.new ≡ G.current game.old }
-    ensures path { G.earlier game.new ≡ G.earlier game.old }
-    ensures follows { Followed T.Table.stored budget ply intended (G.current game.old) (T.held table.old) buffer.old tally.old result (T.held table.new) buffer.new tally.new }
-{
-    match attack(
-        game, table, ply, intended, budget, records, flags, buffer, tally,
-    ) {
-        Attack::Over(stretch) => stretch,
-        Attack::On { chosen, sum } => {
-            let after = follow_move(
-                game, table, ply, chosen, budget, records, flags, buffer, tally,
-            );
-            Stretch {
-                ending: after.ending,
-                sum: sum + after.sum,
-            }
+    /// Writes what comes at the game's position.
+    #[cycle(follow)]
+    pub(crate) fn follow(
+        &mut self,
+        page: &mut Page<'_>,
+        ply: u8,
+        intended: Option<usize>,
+    ) -> Result<(), Stop>
+        requires { Ready ply (G.current self.old.game.now) page.old self.old.sum }
+        ensures stays { Stays G.current G.earlier self.old self.new }
+        ensures follows { Followed T.Table.stored self.old.budget.amount ply intended (G.current self.old.game.now) (T.held self.old.table.now) page.old self.old.sum result (T.held self.new.table.now) page.new self.new.sum }
+    {
+        match self.game.state() {
+            State::Won | State::NotWon => Ok(()),
+            State::Attacker => self.follow_best(page, ply, intended),
+            State::Defender => self.follow_replies(page, ply),
         }
     }
-}
 
-// Writes what comes at a defender's position: for each move a line, and then what comes after it.
-#[cycle(follow_follow_best_follow_move_follow_replies)]
-fn follow_replies<G: Game, T: Table>(
-    game: &mut G,
-    table: &mut T,
-    ply: u8,
-    budget: u32,
-    records: &mut [Pair],
-    flags: &mut [bool],
-    buffer: &mut [u8],
-    tally: &mut Tally,
-) -> Stretch
-    requires records { 6144 ≤ length records.old }
-    requires flags { 6144 ≤ length flags.old }
-    requires budget { budget ≤ 99999999 }
-    requires fair { Fair tally.old }
-    requires ply { ply + rank (G.current game.old) ≤ 33 }
-    requires buffer { length buffer.old ≤ 32768 }
-    requires defender { state (G.current game.old) ≡ Defender }
-    ensures at { G.current game.new ≡ G.current game.old }
-    ensures path { G.earlier game.new ≡ G.earlier game.old }
-    ensures follows { (i : Option ℕ) → Followed T.Table.stored budget ply i (G.current game.old) (T.held table.old) buffer.old tally.old result (T.held table.new) buffer.new tally.new }
-{
-    let mut sum = 0;
-    for i in 0..game.count() {
-        if !write_move(game, buffer, tally, ply, Sign::Reply, i) {
-            return Stretch {
-                ending: Ending::Cut,
-                sum,
-            };
+    /// Makes the solution of the game's position, on a page with no line yet.
+    pub(crate) fn finish(&mut self, page: &mut Page<'_>, intended: usize) -> Solution
+        requires page { (page.old.lines ≡ 0) × (page.old.keys ≡ 0) × (page.old.duals ≡ 0) }
+        requires sum { self.old.sum ≡ 0 }
+        ensures stays { Stays G.current G.earlier self.old self.new }
+        ensures buffer { page.new.buffer.ghost_name ≡ page.old.buffer.ghost_name }
+        ensures solved { Solved T.Table.stored (T.held self.old.table.now) (G.current self.old.game.now) intended self.old.budget.amount page.old.buffer.now result (T.held self.new.table.now) page.new.buffer.now }
+    {
+        let end = self.follow(page, 1, Some(intended));
+        Solution {
+            ending: ending_of(end),
+            lines: page.lines,
+            keys: page.keys,
+            duals: page.duals,
+            sum: self.sum,
         }
-        let after = follow_move(game, table, ply, i, budget, records, flags, buffer, tally);
-        sum += after.sum;
-        if !is_done(after.ending) {
-            return Stretch {
-                ending: after.ending,
-                sum,
-            };
-        }
-    }
-    Stretch {
-        ending: Ending::Done,
-        sum,
-    }
-}
-
-// Writes what comes at the game's position.
-#[cycle(follow_follow_best_follow_move_follow_replies)]
-pub(crate) fn follow<G: Game, T: Table>(
-    game: &mut G,
-    table: &mut T,
-    ply: u8,
-    intended: Option<usize>,
-    budget: u32,
-    records: &mut [Pair],
-    flags: &mut [bool],
-    buffer: &mut [u8],
-    tally: &mut Tally,
-) -> Stretch
-    requires records { 6144 ≤ length records.old }
-    requires flags { 6144 ≤ length flags.old }
-    requires budget { budget ≤ 99999999 }
-    requires fair { Fair tally.old }
-    requires ply { ply + rank (G.current game.old) ≤ 33 }
-    requires buffer { length buffer.old ≤ 32768 }
-    ensures at { G.current game.new ≡ G.current game.old }
-    ensures path { G.earlier game.new ≡ G.earlier game.old }
-    ensures follows { Followed T.Table.stored budget ply intended (G.current game.old) (T.held table.old) buffer.old tally.old result (T.held table.new) buffer.new tally.new }
-{
-    match game.state() {
-        State::Won => Stretch {
-            ending: Ending::Done,
-            sum: 0,
-        },
-        State::NotWon => Stretch {
-            ending: Ending::Done,
-            sum: 0,
-        },
-        State::Attacker => follow_best(
-            game, table, ply, intended, budget, records, flags, buffer, tally,
-        ),
-        State::Defender => follow_replies(game, table, ply, budget, records, flags, buffer, tally),
     }
 }

@@ -4,8 +4,9 @@ mod answer;
 mod attempt;
 mod call;
 mod follow;
-mod stretch;
-mod tally;
+mod page;
+mod solver;
+mod stop;
 mod write;
 
 pub use answer::Solution;

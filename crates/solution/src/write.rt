@@ -1,13 +1,14 @@
-ghost use Rattle.std.specs.Prelude.{◌≡◌, ◌+◌, ◌*◌, ◌<◌, ◌≤◌, [], ◌∷◌, ◌++◌, length, take, drop, if◌then◌else◌, slice_index_or};
+ghost use Rattle.std.specs.Prelude.{◌≡◌, ◌+◌, ◌*◌, ◌<◌, ◌≤◌, [], ◌∷◌, ◌++◌, length, take, drop, slice_index_or};
 ghost use Rattle.game.specs.Tree.{words};
 ghost use Rattle.solution_laws.specs.Lines.{mark, bytes, is_key, is_dual};
 ghost use Rattle.solution_laws.specs.Solution.{wins};
-ghost use Rattle.solution.specs.Pages.{Fair, Writes, other_at};
+ghost use Rattle.solution.specs.Pages.{Writes};
 
-use crate::tally::Tally;
+use crate::page::{Full, Page};
 use game::Game;
 use solution_laws::Sign;
 
+/// The byte of a sign: a match and no `Display`, since a line is eight bytes by its format.
 fn sign_byte(sign: Sign) -> u8
     ensures { result ≡ mark sign }
 {
@@ -18,24 +19,25 @@ fn sign_byte(sign: Sign) -> u8
     }
 }
 
-// The eight bytes of a line.
+/// The eight bytes of a line.
 fn line_bytes(ply: u8, sign: Sign, text: &[u8; 5]) -> [u8; 8]
     requires { ply < 100 }
     ensures { result ≡ bytes (record { ply = ply; sign = sign; text = text.now }) }
 {
+    let [a, b, c, d, e] = *text;
     [
-        48 + ply / 10,
-        48 + ply % 10,
+        b'0' + ply / 10,
+        b'0' + ply % 10,
         sign_byte(sign),
-        text[0],
-        text[1],
-        text[2],
-        text[3],
-        text[4],
+        a,
+        b,
+        c,
+        d,
+        e,
     ]
 }
 
-// Writes a line into the place of number n.
+/// Writes a line into the place of number n.
 fn put_line(buffer: &mut [u8], n: usize, line: &[u8; 8])
     requires { 8 * n + 8 ≤ length buffer.old }
     ensures { buffer.new ≡ take (8 * n) buffer.old ++ (line.now ++ drop (8 * n + 8) buffer.old) }
@@ -43,119 +45,72 @@ fn put_line(buffer: &mut [u8], n: usize, line: &[u8; 8])
     buffer[8 * n..8 * n + 8].copy_from_slice(line);
 }
 
-// 1 for a key, else 0.
-fn key_count(ply: u8, sign: Sign) -> usize
-    ensures is { result ≡ (if is_key (record { ply = ply; sign = sign; text = [] }) then 1 else 0) }
-    ensures small { result ≤ 1 }
+/// Whether a line is a key's: the attacker's, of ply 1.
+fn is_key_line(ply: u8, sign: Sign) -> bool
+    ensures { result ≡ is_key (record { ply = ply; sign = sign; text = [] }) }
 {
-    if ply != 1 {
-        return 0;
-    }
-    match sign {
-        Sign::Chosen => 1,
-        Sign::Other => 1,
-        Sign::Reply => 0,
-    }
+    ply == 1 && sign != Sign::Reply
 }
 
-// 1 for a dual, else 0.
-fn dual_count(ply: u8, sign: Sign) -> usize
-    ensures is { result ≡ (if is_dual (record { ply = ply; sign = sign; text = [] }) then 1 else 0) }
-    ensures small { result ≤ 1 }
+/// Whether a line is a dual's: of another winning move than the chosen one, of a later ply.
+fn is_dual_line(ply: u8, sign: Sign) -> bool
+    ensures { result ≡ is_dual (record { ply = ply; sign = sign; text = [] }) }
 {
-    if ply == 1 {
-        return 0;
-    }
-    match sign {
-        Sign::Chosen => 0,
-        Sign::Other => 1,
-        Sign::Reply => 0,
-    }
+    ply != 1 && sign == Sign::Other
 }
 
-// Writes a line after those written, if it fits.
-fn write_line(buffer: &mut [u8], tally: &mut Tally, ply: u8, sign: Sign, text: &[u8; 5]) -> bool
-    requires fair { Fair tally.old }
-    requires ply { ply < 100 }
-    ensures { Writes (record { ply = ply; sign = sign; text = text.now } ∷ []) buffer.old tally.old result buffer.new tally.new }
-{
-    if tally.lines >= buffer.len() / 8 {
-        return false;
-    }
-    put_line(buffer, tally.lines, &line_bytes(ply, sign, text));
-    tally.lines += 1;
-    tally.keys += key_count(ply, sign);
-    tally.duals += dual_count(ply, sign);
-    true
-}
-
-// Writes the line of the move number i, if it fits.
-pub(crate) fn write_move<G: Game>(
-    game: &G,
-    buffer: &mut [u8],
-    tally: &mut Tally,
-    ply: u8,
-    sign: Sign,
-    i: usize,
-) -> bool
-    requires fair { Fair tally.old }
-    requires ply { ply < 100 }
-    requires number { i < length (words (G.current game.now)) }
-    ensures { Writes (record { ply = ply; sign = sign; text = slice_index_or (words (G.current game.now)) i [] } ∷ []) buffer.old tally.old result buffer.new tally.new }
-{
-    match game.text(i) {
-        Some(text) => write_line(buffer, tally, ply, sign, &text),
-        None => false,
-    }
-}
-
-// Writes the line with `+` for the move number i, if it wins and is not the chosen one.
-fn write_other<G: Game>(
-    game: &G,
-    buffer: &mut [u8],
-    tally: &mut Tally,
-    ply: u8,
-    chosen: usize,
-    flags: &[bool],
-    i: usize,
-) -> bool
-    requires fair { Fair tally.old }
-    requires ply { ply < 100 }
-    requires flag { i < length flags.now }
-    requires number { i < length (words (G.current game.now)) }
-    ensures { Writes (other_at ply chosen i flags.now (words (G.current game.now))) buffer.old tally.old result buffer.new tally.new }
-{
-    if !flags[i] {
-        return true;
-    }
-    if i == chosen {
-        return true;
-    }
-    write_move(game, buffer, tally, ply, Sign::Other, i)
-}
-
-// Writes the attacker's lines at a position: the chosen move's, then those of the other winning ones.
-pub(crate) fn write_wins<G: Game>(
-    game: &G,
-    buffer: &mut [u8],
-    tally: &mut Tally,
-    ply: u8,
-    chosen: usize,
-    flags: &[bool],
-) -> bool
-    requires fair { Fair tally.old }
-    requires ply { ply < 100 }
-    requires number { chosen < length (words (G.current game.now)) }
-    requires flags { length flags.now ≡ length (words (G.current game.now)) }
-    ensures { Writes (wins ply chosen flags.now (words (G.current game.now))) buffer.old tally.old result buffer.new tally.new }
-{
-    if !write_move(game, buffer, tally, ply, Sign::Chosen, chosen) {
-        return false;
-    }
-    for i in 0..flags.len() {
-        if !write_other(game, buffer, tally, ply, chosen, flags, i) {
-            return false;
+// That a ply has two digits is asked four times: a type for it would be made and taken apart in each function, no plainer.
+impl<'a> Page<'a> {
+    /// Writes a line after those written, if it fits.
+    fn write(&mut self, ply: u8, sign: Sign, text: &[u8; 5]) -> Result<(), Full>
+        requires { ply < 100 }
+        ensures { Writes (record { ply = ply; sign = sign; text = text.now } ∷ []) self.old result self.new }
+    {
+        if self.lines >= self.buffer.len() / 8 {
+            return Err(Full);
         }
+        put_line(self.buffer, self.lines, &line_bytes(ply, sign, text));
+        self.lines += 1;
+        self.keys += usize::from(is_key_line(ply, sign));
+        self.duals += usize::from(is_dual_line(ply, sign));
+        Ok(())
     }
-    true
+
+    /// Writes the line of the move number i, if it fits.
+    pub(crate) fn write_move<G: Game>(
+        &mut self,
+        game: &G,
+        ply: u8,
+        sign: Sign,
+        i: usize,
+    ) -> Result<(), Full>
+        requires ply { ply < 100 }
+        requires number { i < length (words (G.current game.now)) }
+        ensures { Writes (record { ply = ply; sign = sign; text = slice_index_or (words (G.current game.now)) i [] } ∷ []) self.old result self.new }
+    {
+        let text = game.text(i).unwrap();
+        self.write(ply, sign, &text)
+    }
+
+    /// Writes the attacker's lines at a position, as far as they fit: the chosen move's, then those of the other winning ones.
+    pub(crate) fn write_wins<G: Game>(
+        &mut self,
+        game: &G,
+        ply: u8,
+        chosen: usize,
+        flags: &[bool],
+    ) -> Result<(), Full>
+        requires ply { ply < 100 }
+        requires number { chosen < length (words (G.current game.now)) }
+        requires flags { length flags.now ≡ length (words (G.current game.now)) }
+        ensures { Writes (wins ply chosen flags.now (words (G.current game.now))) self.old result self.new }
+    {
+        self.write_move(game, ply, Sign::Chosen, chosen)?;
+        for (i, won) in flags.iter().enumerate() {
+            if *won && i != chosen {
+                self.write_move(game, ply, Sign::Other, i)?;
+            }
+        }
+        Ok(())
+    }
 }

@@ -1,7 +1,10 @@
-// What a line's move is: the attacker's that goes on, `!`; another that wins too, `+`; or a defender's, `.`.
+/// What a line's move is.
 #[derive(Clone, Copy, PartialEq, Eq, Debug)]
 pub enum Sign {
+    /// the attacker's that the solution follows, written `!`
     Chosen,
+    /// another of the attacker's that wins too, written `+`
     Other,
+    /// a defender's, written `.`
     Reply,
 }

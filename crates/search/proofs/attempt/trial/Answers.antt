@@ -1,4 +1,4 @@
-use Rattle.std.proofs.Common.{◌≡◌, ℕ, true, false, length, None, rules}
+use Rattle.std.proofs.Common.{◌≡◌, ℕ, ◌≤◌, true, false, length, None, subst, rules}
 use Rattle.game.specs.Tree.{Tree, minimax}
 use Rattle.table.specs.Pairs.{Held}
 use Rattle.search_laws.specs.Run.{Storing}
@@ -11,6 +11,9 @@ use Rattle.search_laws.proofs.Trials.{trials_are_right_lem, spent-is-meant}
 use Rattle.search_laws.proofs.Laws.{ranging}
 use Rattle.search.proofs.attempt.trial.Goals as goal
 
+accepted : (b n : ℕ) → b ≤ 99999999 → 6144 ≤ n → trial_decline b n ≡ None
+accepted b n within enough = search rules
+
 means : (S : Storing) → Keeping S → (positions : Tree → Type 0) → Ranging positions → (h : Held) (t : Tree) (b : ℕ) (a : Answer) (h' : Held)
     → positions t → Trial S h t b a h' → Means positions h t b a h'
 means S keeping positions ranging h t b a h' i r =
@@ -22,15 +25,18 @@ pub returns : goal.returns
 returns g c =
     let S : Storing = g.T.Table.stored in
     let h : Held = g.T.Table.held c.args.table.now in
-    let h' : Held = g.T.Table.held c.try_out.new.table in
+    let h' : Held = g.T.Table.held c.try_position.new.table in
     let t : Tree = g.G.Game.current c.args.game.now in
-    let r : Trial S h t c.args.budget c.try_out.result h' = c.try_out.ensures.tried in
-    let taken : trial_decline c.args.budget (length c.args.records.now) ≡ None = search rules in
+    let r : Trial S h t c.args.budget c.try_position.result h' =
+    subst (λ (b : ℕ). Trial S h t b c.try_position.result h') c.in_ok-budget.ensures c.try_position.ensures.tried in
+    let within : c.args.budget ≤ 99999999 = subst (λ (b : ℕ). b ≤ 99999999) c.in_ok-budget.ensures c.in_ok-budget.budget.within in
+    let enough : 6144 ≤ length c.args.records.now = c.in-Some.ensures.cases.enough in
+    let taken : trial_decline c.args.budget (length c.args.records.now) ≡ None = accepted c.args.budget (length c.args.records.now) within enough in
     record {
-      at = c.try_out.ensures.at;
-      path = c.try_out.ensures.path;
+      at = c.try_position.ensures.at;
+      path = c.try_position.ensures.path;
       right = means S (record { own = g.met.T.Table.own; other = g.met.T.Table.other })
           g.G.Game.positions (ranging g.met.G.Game.lawful)
-          h t c.args.budget c.try_out.result h' (g.met.G.Game.within c.args.game.now) r;
+          h t c.args.budget c.try_position.result h' (g.met.G.Game.within c.args.game.now) r;
       tried = (taken, r);
     }

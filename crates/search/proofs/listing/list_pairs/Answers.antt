@@ -5,6 +5,11 @@ use Rattle.table.specs.declared.pair.Pair.{Pair}
 use Rattle.search_laws.specs.Run.{listed}
 use Rattle.search.proofs.listing.list_pairs.Goals as goal
 
+pub listed_move-requires : goal.listed_move-requires
+listed_move-requires g c =
+    let same : next (g.G.Game.current c.loop-i.game) ≡ next (g.G.Game.current c.args.game.now) = ap next c.loop-i.invariant.0 in
+    rw same (omega (arith, c.requires, c.loop-i-test.true))
+
 pub loop-i-preserved : goal.loop-i-preserved
 loop-i-preserved g c =
     let us : List Tree = next (g.G.Game.current c.args.game.now) in

@@ -1,8 +1,9 @@
-use Rattle.std.proofs.Common.{List, refl, ap, ◌∙◌, arith}
+use Rattle.std.proofs.Common.{◌≡◌, List, refl, ap, ◌∙◌, rules, arith}
 use Rattle.game.specs.Tree.{Tree}
 use Rattle.stack.specs.Contents.{contents}
 use Rattle.search.specs.declared.entry.Turn.TheVariants.{Look, Try, Back}
-use Rattle.search.proofs.Turns.{leads-back, search_started, turned, at-look, search_ended}
+use Rattle.search.specs.Search.{wins}
+use Rattle.search.proofs.Turns.{wins_by, leads-back, search_started, turned, at-look, search_ended}
 use Rattle.search.proofs.plain.plain_search.Goals as goal
 
 pub loop-turn-init : goal.loop-turn-init
@@ -22,8 +23,9 @@ returns-in-None g c =
 
 pub returns-in-None-pop : goal.returns-in-None-pop
 returns-in-None-pop g c =
-    let e = search_ended c.loop-turn.turn _ _ _ _ c.in-Back.won (g.G.Game.current c.args.game.now) _ c.in-Back.is c.in-None-pop.ensures.popped.0 c.loop-turn.invariant.0 in
-    record { at = e.0; path = e.1; found = (e.2, e.3, omega (arith, e.3, c.loop-turn.invariant.2)) }
+    let e = search_ended c.loop-turn.turn _ _ _ _ c.in-Back.winner (g.G.Game.current c.args.game.now) _ c.in-Back.is c.in-None-pop.ensures.popped.0 c.loop-turn.invariant.0 in
+    let won : c.eq.result ≡ wins c.in-Back.winner = wins_by c.in-Back.winner c.eq.result (λ e. search rules) (λ e. search rules) in
+    record { at = e.0; path = e.1; found = (won ∙ e.2, e.3, omega (arith, e.3, c.loop-turn.invariant.2)) }
 
 pub loop-turn-smaller-in-Some : goal.loop-turn-smaller-in-Some
 loop-turn-smaller-in-Some g c =
@@ -49,11 +51,11 @@ loop-turn-preserved-in-Try g c = (
 
 pub loop-turn-smaller : goal.loop-turn-smaller
 loop-turn-smaller g c =
-    (turned _ (Back c.in-Back.won) _ _ _ _ _ _ _ _ _ _ _ _ c.in-Back.is c.in-Some-pop.ensures.popped c.loop-turn.invariant.0 (c.come_back.ensures _ _)).1
+    (turned _ (Back c.in-Back.winner) _ _ _ _ _ _ _ _ _ _ _ _ c.in-Back.is c.in-Some-pop.ensures.popped c.loop-turn.invariant.0 (c.come_back.ensures _ _)).1
 
 pub loop-turn-preserved : goal.loop-turn-preserved
 loop-turn-preserved g c = (
-  (turned _ (Back c.in-Back.won) _ _ _ _ _ _ _ _ _ _ _ _ c.in-Back.is c.in-Some-pop.ensures.popped c.loop-turn.invariant.0 (c.come_back.ensures _ _)).0,
+  (turned _ (Back c.in-Back.winner) _ _ _ _ _ _ _ _ _ _ _ _ c.in-Back.is c.in-Some-pop.ensures.popped c.loop-turn.invariant.0 (c.come_back.ensures _ _)).0,
   c.pop.ensures.room ∙ c.loop-turn.invariant.1,
   c.loop-turn.invariant.2,
 )

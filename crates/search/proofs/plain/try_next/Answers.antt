@@ -5,7 +5,7 @@ use Rattle.search.proofs.Turns.{try_none, try_taken}
 use Rattle.search.proofs.plain.try_next.Goals as goal
 
 pub returns-then-entry : goal.returns-then-entry
-returns-then-entry g c = record { goes = λ n. try_none c.args.entry _ _ _ n c.if-entry.true; room = c.requires }
+returns-then-entry g c = record { goes = λ n. try_none c.args.entry _ _ _ n c.other.result c.if-entry.true c.other.ensures; room = c.requires }
 
 pub returns : goal.returns
 returns g c =

@@ -1,30 +1,51 @@
-use Rattle.std.proofs.Common.{◌≡◌, length, None, sym, ◌∙◌}
+use Rattle.std.proofs.Common.{◌≡◌, ◌≤◌, ◌++◌, ℕ, List, length, drop, ap, ◌∙◌, subst}
+use Rattle.std.proofs.lemmas.List.{take-append-drop}
 use Rattle.game.specs.Tree.{Tree}
+use Rattle.table.specs.declared.pair.Pair.{Pair}
 use Rattle.search_laws.proofs.Laws.{ranging}
 use Rattle.search_laws.proofs.Trials as trials
 use Rattle.search_laws.proofs.Trials.{trials_are_right_lem}
 use Rattle.solution_laws.proofs.Fitting.{solutions_fit}
 use Rattle.solution_laws.proofs.Right.{solutions_are_right_lem}
 use Rattle.solution_laws.proofs.Spent.{spent-is-meant}
-use Rattle.solution.specs.Calls.{declined}
-use Rattle.solution.proofs.Shown.{attacked, means}
+use Rattle.solution.specs.Calls.{Solved}
+use Rattle.solution.proofs.Shown.{accepted, short, refused, attacked, means}
 use Rattle.solution.proofs.call.solve.Goals as goal
 
-pub returns : goal.returns
-returns g c =
+pub returns-in_err-accept-clause-answered : goal.returns-in_err-accept-clause-answered
+returns-in_err-accept-clause-answered g c =
+    let t : Tree = g.G.Game.current c.args.game.now in
+    let rs : List Pair = c.args.records.now in
+    let within = subst (λ (b : ℕ). b ≤ 99999999) c.in_ok-budget.ensures c.in_ok-budget.budget.within in
+    let e = accepted t c.args.intended c.args.budget (length rs) (length c.args.buffer.now) within c.in-Some.ensures.cases.enough in
+    let same : c.in-Some.records.now ++ drop 6144 rs ≡ rs = ap (λ (x : List Pair). x ++ drop 6144 rs) c.in-Some.ensures.cases.same ∙ take-append-drop 6144 rs in
+    (refused g.G.Game.positions g.T.Table.stored (g.T.Table.held c.args.table.now) t c.args.intended c.args.budget rs _ c.args.buffer.now c.from_residual-in_err-accept.result c.in_err-accept.field-0.0
+    c.from_residual-in_err-accept.ensures.1 (e ∙ c.in_err-accept.ensures) same).0
+
+pub write_solution-requires : goal.write_solution-requires
+write_solution-requires g c = short (g.G.Game.current c.args.game.now) c.args.intended (length c.args.buffer.now) c.in_ok-accept.ensures
+
+pub returns-clause-answered : goal.returns-clause-answered
+returns-clause-answered g c =
+    let t : Tree = g.G.Game.current c.args.game.now in
+    let within = subst (λ (b : ℕ). b ≤ 99999999) c.in_ok-budget.ensures c.in_ok-budget.budget.within in
+    let e = accepted t c.args.intended c.args.budget (length c.args.records.now) (length c.args.buffer.now) within c.in-Some.ensures.cases.enough in (
+      e ∙ c.in_ok-accept.ensures,
+      subst (λ (b : ℕ). Solved g.T.Table.stored (g.T.Table.held c.args.table.now) t c.args.intended b c.args.buffer.now c.write_solution.result (g.T.Table.held c.write_solution.new.table) c.write_solution.new.buffer)
+          c.in_ok-budget.ensures c.write_solution.ensures.solved,
+    )
+
+pub returns-clause-right : goal.returns-clause-right
+returns-clause-right g c =
     let m = g.met.G.Game in
     let n = g.met.T.Table in
     let S = g.T.Table.stored in
     let t : Tree = g.G.Game.current c.args.game.now in
-    let e : declined t c.args.intended c.args.budget (length c.args.records.now) (length c.args.buffer.now) ≡ None = sym c.refusal.ensures ∙ c.in_default.is in
-    record {
-      at = c.write_solution.ensures.at;
-      path = c.write_solution.ensures.path;
-      answered = (e, c.write_solution.ensures.solved);
-      right = means g.G.Game.positions S (g.T.Table.held c.args.table.now) t c.args.intended c.args.budget c.args.buffer.now c.write_solution.result
-          (g.T.Table.held c.write_solution.new.table) c.write_solution.new.buffer
-          (solutions_fit m.lawful S)
-          (solutions_are_right_lem m.lawful S (trials_are_right_lem g.G.Game.positions (ranging m.lawful) S (record { own = n.own; other = n.other })))
-          (spent-is-meant S (trials.spent-is-meant S)) (m.within c.args.game.now)
-          (attacked t c.args.intended c.args.budget (length c.args.records.now) (length c.args.buffer.now) e) c.write_solution.ensures.solved;
-    }
+    let h = g.T.Table.held c.args.table.now in
+    let s = subst (λ (b : ℕ). Solved S h t c.args.intended b c.args.buffer.now c.write_solution.result (g.T.Table.held c.write_solution.new.table) c.write_solution.new.buffer)
+    c.in_ok-budget.ensures c.write_solution.ensures.solved in
+    means g.G.Game.positions S h t c.args.intended c.args.budget c.args.buffer.now c.write_solution.result (g.T.Table.held c.write_solution.new.table) c.write_solution.new.buffer
+    (solutions_fit m.lawful S)
+    (solutions_are_right_lem m.lawful S (trials_are_right_lem g.G.Game.positions (ranging m.lawful) S (record { own = n.own; other = n.other })))
+    (spent-is-meant S (trials.spent-is-meant S)) (m.within c.args.game.now)
+    (attacked t c.args.intended 0 6144 (length c.args.buffer.now) c.in_ok-accept.ensures) s

@@ -1,0 +1,106 @@
+use Rattle.std.proofs.Common.{◌≡◌, ◌+◌, ◌<◌, ℕ, [], ◌∷◌, length, get_or, None, Ok, Err, Option, inl, inr, sym, refl, ap, ◌∙◌, subst, arith}
+use Rattle.game.specs.Tree.{Tree, nowhere, moves, next, words}
+use Rattle.search.specs.declared.budget.Budget.{Budget}
+use Rattle.solution_laws.specs.Solution.{reply_line, won, not_won}
+use Rattle.solution_laws.proofs.Texts.{length-texts}
+use Rattle.solution.specs.Pages.{Writes}
+use Rattle.solution.specs.Following.{Followed, Attacks}
+use Rattle.solution.proofs.Following.{no_line_followed, win_followed, replying_start, replying_cut, replying-last, replying-next, replying_end}
+use Rattle.solution.proofs.solver.Solver.+follow.Goals as goal
+
+-- a position
+
+pub follow-returns-in-Won-clause-follows : goal.follow-returns-in-Won-clause-follows
+follow-returns-in-Won-clause-follows g t c =
+    let s = c.args.self.now in
+    let u : Tree = g.G.Game.current s.game.now in
+    let h = g.T.Table.held s.table.now in
+    let at_end = no_line_followed g.T.Table.stored s.budget.amount c.args.ply c.args.intended u h c.args.page.now s.sum (Ok tt) 0 h s.sum (omega arith) (omega arith) in
+    elim c.in-Won.is [ inl e ↦ at_end (won (sym c.state.ensures ∙ e)) | inr e ↦ at_end (not_won (sym c.state.ensures ∙ e)) ]
+
+-- an attacker's position
+
+pub follow_best-returns-in-Some-clause-follows : goal.follow_best-returns-in-Some-clause-follows
+follow_best-returns-in-Some-clause-follows g t c =
+    let G = g.G.Game in
+    let S = g.T.Table.stored in
+    let s = c.args.self.now in let s1 = c.attack.new.self in let s2 = c.follow_move.new.self in
+    let b = s.budget.amount in let k = c.args.ply in
+    let u : Tree = G.current s.game.now in
+    let h = g.T.Table.held s.table.now in let h1 = g.T.Table.held s1.table.now in let h2 = g.T.Table.held s2.table.now in
+    let j = c.in-Some.chosen in
+    let a = subst (λ (o : Option ℕ). Attacks S b k c.args.intended u h c.args.page.now s.sum (Ok o) h1 c.attack.new.page s1.sum) c.in-Some.is c.in_ok-chosen.ensures.attacks in
+    let f1 = subst (λ (x : Budget). Followed S x.amount (k + 1) None (get_or (next (G.current s1.game.now)) j nowhere) h1 c.attack.new.page s1.sum c.follow_move.result h2 c.follow_move.new.page s2.sum) c.attack.ensures.stays.budget c.follow_move.ensures.follows in
+    let f2 = subst (λ (x : Tree). Followed S b (k + 1) None (get_or (next x) j nowhere) h1 c.attack.new.page s1.sum c.follow_move.result h2 c.follow_move.new.page s2.sum) c.attack.ensures.stays.at f1 in
+    win_followed S b k c.args.intended u h c.args.page.now s.sum h1 s1.sum c.requires.attacker j h2 c.attack.new.page c.follow_move.new.page s2.sum c.follow_move.result a f2
+
+-- a defender's position
+
+pub follow_replies-loop-i-init : goal.follow_replies-loop-i-init
+follow_replies-loop-i-init g t c =
+    let s = c.args.self.now in
+    record {
+      stays = record { at = refl; path = refl; budget = refl; game = refl; table = refl; records = refl };
+      replying = replying_start g.T.Table.stored s.budget.amount c.args.ply (g.G.Game.current s.game.now) (g.T.Table.held s.table.now) c.args.page.now s.sum;
+    }
+
+pub follow_replies-write_move-requires-clause-number : goal.follow_replies-write_move-requires-clause-number
+follow_replies-write_move-requires-clause-number g t c =
+    let v : Tree = g.G.Game.current c.loop-i.self.game.now in
+    let at : length (next v) ≡ length (next (g.G.Game.current c.args.self.now.game.now)) = ap (λ (x : Tree). length (next x)) c.loop-i.invariant.stays.at in
+    omega (arith, at, length-texts (moves v), c.count-i-end.ensures, c.loop-i-test.true)
+
+pub follow_replies-returns-in_err-write_move-clause-follows : goal.follow_replies-returns-in_err-write_move-clause-follows
+follow_replies-returns-in_err-write_move-clause-follows g t c = λ o.
+    let s = c.args.self.now in let s1 = c.loop-i.self in
+    let u : Tree = g.G.Game.current s.game.now in
+    let i = c.loop-i.i in
+    let v = c.loop-i.invariant in
+    let low : i < length (next u) = omega (arith, c.count-i-end.ensures, c.loop-i-test.true) in
+    let e = c.in_err-write_move.field-0.0 in
+    let p2 = c.write_move.new.self in
+    let w = subst (λ (x : Tree). Writes (reply_line c.args.ply (get_or (words x) i []) ∷ []) c.loop-i.page (Err e) p2) v.stays.at c.in_err-write_move.ensures in
+    replying_cut g.T.Table.stored s.budget.amount c.args.ply u (g.T.Table.held s.table.now) c.args.page.now s.sum i (g.T.Table.held s1.table.now) c.loop-i.page s1.sum v.replying low
+    o c.from_residual.result e p2 c.from_residual.ensures.1 c.requires.defender w
+
+pub follow_replies-returns-in_err-follow_move-clause-follows : goal.follow_replies-returns-in_err-follow_move-clause-follows
+follow_replies-returns-in_err-follow_move-clause-follows g t c = λ o.
+    let S = g.T.Table.stored in
+    let s = c.args.self.now in let s1 = c.loop-i.self in let s3 = c.follow_move.new.self in
+    let u : Tree = g.G.Game.current s.game.now in
+    let i = c.loop-i.i in let k = c.args.ply in let b = s.budget.amount in
+    let v = c.loop-i.invariant in
+    let low : i < length (next u) = omega (arith, c.count-i-end.ensures, c.loop-i-test.true) in
+    let h1 = g.T.Table.held s1.table.now in let h3 = g.T.Table.held s3.table.now in
+    let e = c.in_err-follow_move.field-0.0 in
+    let p2 = c.write_move.new.self in
+    let w = subst (λ (x : Tree). Writes (reply_line k (get_or (words x) i []) ∷ []) c.loop-i.page (Ok tt) p2) v.stays.at c.in_ok-write_move.ensures in
+    let f1 = subst (λ (x : Budget). Followed S x.amount (k + 1) None (get_or (next (g.G.Game.current s1.game.now)) i nowhere) h1 p2 s1.sum (Err e) h3 c.follow_move.new.page s3.sum) v.stays.budget c.in_err-follow_move.ensures.follows in
+    let f2 = subst (λ (x : Tree). Followed S b (k + 1) None (get_or (next x) i nowhere) h1 p2 s1.sum (Err e) h3 c.follow_move.new.page s3.sum) v.stays.at f1 in
+    replying-last S b k u (g.T.Table.held s.table.now) c.args.page.now s.sum i h1 c.loop-i.page s1.sum v.replying low p2 w (Err e) h3 c.follow_move.new.page s3.sum f2
+    o e c.from_residual-in_err-follow_move.result c.requires.defender refl c.from_residual-in_err-follow_move.ensures.1
+
+pub follow_replies-loop-i-preserved : goal.follow_replies-loop-i-preserved
+follow_replies-loop-i-preserved g t c =
+    let S = g.T.Table.stored in
+    let s = c.args.self.now in let s1 = c.loop-i.self in let s3 = c.follow_move.new.self in
+    let u : Tree = g.G.Game.current s.game.now in
+    let i = c.loop-i.i in let k = c.args.ply in let b = s.budget.amount in
+    let v = c.loop-i.invariant in
+    let low : i < length (next u) = omega (arith, c.count-i-end.ensures, c.loop-i-test.true) in
+    let h1 = g.T.Table.held s1.table.now in let h3 = g.T.Table.held s3.table.now in
+    let p2 = c.write_move.new.self in
+    let w = subst (λ (x : Tree). Writes (reply_line k (get_or (words x) i []) ∷ []) c.loop-i.page (Ok tt) p2) v.stays.at c.in_ok-write_move.ensures in
+    let f1 = subst (λ (x : Budget). Followed S x.amount (k + 1) None (get_or (next (g.G.Game.current s1.game.now)) i nowhere) h1 p2 s1.sum (Ok tt) h3 c.follow_move.new.page s3.sum) v.stays.budget c.in_ok-follow_move.ensures.follows in
+    let f2 = subst (λ (x : Tree). Followed S b (k + 1) None (get_or (next x) i nowhere) h1 p2 s1.sum (Ok tt) h3 c.follow_move.new.page s3.sum) v.stays.at f1 in
+    let y = c.follow_move.ensures.stays in
+    record {
+      stays = record { at = y.at ∙ v.stays.at; path = y.path ∙ v.stays.path; budget = y.budget ∙ v.stays.budget; game = y.game ∙ v.stays.game; table = y.table ∙ v.stays.table; records = y.records ∙ v.stays.records };
+      replying = replying-next S b k u (g.T.Table.held s.table.now) c.args.page.now s.sum i h1 c.loop-i.page s1.sum v.replying low p2 w (Ok tt) h3 c.follow_move.new.page s3.sum f2 refl;
+    }
+
+pub follow_replies-returns-clause-follows : goal.follow_replies-returns-clause-follows
+follow_replies-returns-clause-follows g t c = λ o.
+    let s = c.args.self.now in let s1 = c.loop-i.self in
+    replying_end g.T.Table.stored s.budget.amount c.args.ply (g.G.Game.current s.game.now) (g.T.Table.held s.table.now) c.args.page.now s.sum o c.loop-i.i (g.T.Table.held s1.table.now) c.loop-i.page s1.sum
+    c.loop-i.invariant.replying (omega (arith, c.count-i-end.ensures, c.loop-i-test.false)) c.requires.defender

@@ -1,0 +1,74 @@
+use Rattle.std.proofs.Common.{◌≡◌, ◌+◌, ◌<◌, ℕ, length, get_or, set, sym, refl, ◌∙◌, subst, arith}
+use Rattle.game.specs.Tree.{Tree, nowhere, moves, next}
+use Rattle.search.specs.declared.budget.Budget.{Budget}
+use Rattle.search_laws.specs.Trial.{Trial}
+use Rattle.solution_laws.specs.Solution.{cost, Stops}
+use Rattle.solution.specs.Attempts.{Adds}
+use Rattle.solution.proofs.Attempts.{Trying, few, value-won, value-spent, trying_start, trying_next, trying_stop, trying_end, attempt_spent}
+use Rattle.solution.proofs.solver.Solver.try_moves.Goals as goal
+
+pub loop-i-init : goal.loop-i-init
+loop-i-init g c = record {
+  stays = record { at = refl; path = refl; budget = refl; game = refl; table = refl; records = refl };
+  trying = trying_start g.T.Table.stored c.args.self.now.budget.amount (g.T.Table.held c.args.self.now.table.now) (moves (g.G.Game.current c.args.self.now.game.now)) c.args.self.now.sum c.args.self.now.flags;
+}
+
+pub returns-in_err-won-clause-tried : goal.returns-in_err-won-clause-tried
+returns-in_err-won-clause-tried g c =
+    let S = g.T.Table.stored in
+    let b = c.args.self.now.budget.amount in
+    let held = g.T.Table.held c.args.self.now.table.now in
+    let t : Tree = g.G.Game.current c.args.self.now.game.now in
+    let n = c.args.self.now.sum in
+    let i = c.loop-i.i in
+    let h = g.T.Table.held c.loop-i.self.table.now in
+    let h' = g.T.Table.held c.try_move-answer.new.table in
+    let a = c.try_move-answer.result in
+    let v = c.loop-i.invariant in
+    let low : i < length (next t) = omega (arith, c.count-i-end.ensures, c.loop-i-test.true) in
+    let r1 = subst (λ (x : Tree). Trial S h (get_or (next x) i nowhere) c.loop-i.self.budget.amount a h') v.stays.at c.try_move-answer.ensures.tried in
+    let r2 = subst (λ (x : Budget). Trial S h (get_or (next t) i nowhere) x.amount a h') v.stays.budget r1 in
+    let w = value-spent a.verdict c.in_err-won.field-0.0 (sym c.value.ensures ∙ c.in_err-won.was) in
+    let s : c.loop-i.self.sum + cost a ≡ c.loop-i.self.sum + (c.from.result + c.from-in-loop-i.result) = omega (arith, c.from.ensures, c.from-in-loop-i.ensures) in
+    let f = few g.met.G.Game.lawful t (g.met.G.Game.within c.args.self.now.game.now) in
+    let z = trying_stop S b held (moves t) n i c.loop-i.self.flags c.loop-i.self.sum h h' a low c.args.self.now.budget.within v.trying r2 w.0 f in
+    attempt_spent _ c.from_residual.result c.in_err-won.field-0.0 w.1 c.from_residual.ensures.1 (subst (λ (x : ℕ). Adds (λ k. Stops S b held (moves t) k h') n x) s z)
+
+pub loop-i-preserved : goal.loop-i-preserved
+loop-i-preserved g c =
+    let S = g.T.Table.stored in
+    let b = c.args.self.now.budget.amount in
+    let held = g.T.Table.held c.args.self.now.table.now in
+    let t : Tree = g.G.Game.current c.args.self.now.game.now in
+    let n = c.args.self.now.sum in
+    let i = c.loop-i.i in
+    let h = g.T.Table.held c.loop-i.self.table.now in
+    let h' = g.T.Table.held c.try_move-answer.new.table in
+    let a = c.try_move-answer.result in
+    let v = c.loop-i.invariant in
+    let low : i < length (next t) = omega (arith, c.count-i-end.ensures, c.loop-i-test.true) in
+    let r1 = subst (λ (x : Tree). Trial S h (get_or (next x) i nowhere) c.loop-i.self.budget.amount a h') v.stays.at c.try_move-answer.ensures.tried in
+    let r2 = subst (λ (x : Budget). Trial S h (get_or (next t) i nowhere) x.amount a h') v.stays.budget r1 in
+    let w = value-won a.verdict c.in_ok-won.won (sym c.value.ensures ∙ c.in_ok-won.was) in
+    let s : c.loop-i.self.sum + cost a ≡ c.loop-i.self.sum + (c.from.result + c.from-in-loop-i.result) = omega (arith, c.from.ensures, c.from-in-loop-i.ensures) in
+    let f = few g.met.G.Game.lawful t (g.met.G.Game.within c.args.self.now.game.now) in
+    let fl : length c.loop-i.self.flags ≡ 6144 = omega arith in
+    let z = trying_next S b held (moves t) n i c.loop-i.self.flags c.loop-i.self.sum h h' a low c.args.self.now.budget.within v.trying r2 c.in_ok-won.won (omega arith) w in
+    record {
+      stays = record {
+        at = c.try_move-answer.ensures.at ∙ v.stays.at;
+        path = c.try_move-answer.ensures.path ∙ v.stays.path;
+        budget = v.stays.budget;
+        game = v.stays.game;
+        table = v.stays.table;
+        records = v.stays.records;
+      };
+      trying = subst (λ (x : ℕ). Trying S b held (moves t) n (i + 1) (set c.loop-i.self.flags i c.in_ok-won.won) h' x) s z;
+    }
+
+pub returns-clause-tried : goal.returns-clause-tried
+returns-clause-tried g c =
+    let t : Tree = g.G.Game.current c.args.self.now.game.now in
+    let f = few g.met.G.Game.lawful t (g.met.G.Game.within c.args.self.now.game.now) in
+    let l : c.loop-i.i ≡ length (next t) = omega (arith, c.count-i-end.ensures, c.loop-i-test.false, c.loop-i.auto.i-end) in
+    trying_end g.T.Table.stored c.args.self.now.budget.amount (g.T.Table.held c.args.self.now.table.now) (moves t) c.args.self.now.sum c.loop-i.i c.loop-i.self.flags c.loop-i.self.sum (g.T.Table.held c.loop-i.self.table.now) f l c.loop-i.invariant.trying

@@ -1,0 +1,9 @@
+-- The words in which an ending is printed.
+use Rattle.std.specs.Prelude.{ℕ, List, codes}
+use Rattle.solution_laws.specs.declared.ending.Ending.{Ending}
+use Rattle.solution_laws.specs.declared.ending.Ending.TheVariants.{Done, Spent, Cut}
+
+abbrev pub word : Ending → List ℕ
+word Done = codes "done"
+word Spent = codes "spent"
+word Cut = codes "cut"

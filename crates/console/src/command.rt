@@ -1,220 +1,209 @@
-use crate::words::{cut, move_text, number};
+use crate::words::{Unknown, cut, number};
+use std::fmt;
 
-// How many pair records and bytes of a solution's buffer are lent where the command does not say.
-const RECORDS: u64 = 6144;
+/// How many pair records are lent to a call that does not say: as many as a call can use.
+pub const RECORDS: usize = 6_144;
 
-const BUFFER: u64 = 32_768;
+/// How many bytes of a buffer are lent to a solution that does not say: room for 4,096 lines.
+pub const BUFFER: usize = 32_768;
 
-// Which move is meant: by its number, by its text, or by a text that no move can have.
+/// Which move is meant: by its number, or by its text without the closing blanks.
 #[derive(Clone, Copy)]
-pub enum Choice {
+pub enum Choice<'a> {
     Number(usize),
-    Text([u8; 5]),
-    Never,
+    Text(&'a [u8]),
 }
 
-// The games that can be made.
+/// The games that can be made.
 #[derive(Clone, Copy)]
 pub enum Kind {
     Chess,
     Othello,
 }
 
-// The policies of the transposition table.
+impl Kind {
+    /// The game of that name.
+    fn named(name: &[u8]) -> Option<Kind> {
+        match name {
+            b"chess" => Some(Kind::Chess),
+            b"othello" => Some(Kind::Othello),
+            _ => None,
+        }
+    }
+}
+
+impl fmt::Display for Kind {
+    fn fmt<W: fmt::Write>(&self, f: &mut fmt::Formatter<W>) -> fmt::Result {
+        match self {
+            Kind::Chess => write!(f, "chess"),
+            Kind::Othello => write!(f, "othello"),
+        }
+    }
+}
+
+/// The policies of the transposition table.
 #[derive(Clone, Copy)]
 pub enum Policy {
     None,
     Newest,
 }
 
-// What a line asks for.
+impl Policy {
+    /// The policy of that name.
+    fn named(name: &[u8]) -> Option<Policy> {
+        match name {
+            b"none" => Some(Policy::None),
+            b"newest" => Some(Policy::Newest),
+            _ => None,
+        }
+    }
+}
+
+impl fmt::Display for Policy {
+    fn fmt<W: fmt::Write>(&self, f: &mut fmt::Formatter<W>) -> fmt::Result {
+        match self {
+            Policy::None => write!(f, "none"),
+            Policy::Newest => write!(f, "newest"),
+        }
+    }
+}
+
+/// How many pair records and how many bytes of a buffer are lent to a call.
+#[derive(Clone, Copy, Default)]
+pub struct Loan {
+    pub records: usize,
+    pub buffer: usize,
+}
+
+/// A call of the tester, with its moves as the line names them.
 #[derive(Clone, Copy)]
-pub enum Command<'a> {
-    Make {
-        kind: Kind,
-        policy: Policy,
-    },
-    Set {
-        aim: u32,
-        text: &'a [u8],
-    },
+pub enum Request<'a> {
+    Set { aim: u32, text: &'a [u8] },
+    Play(Choice<'a>),
+    Back,
+    Trial(u32),
+    Solution { intended: Choice<'a>, budget: u32 },
+    Clear,
+}
+
+/// What is asked of the tester that was made last: to show its game, or a call.
+#[derive(Clone, Copy)]
+pub enum Question<'a> {
     Board,
     Moves,
-    Find(Choice),
-    Play(Choice),
-    Back,
-    Trial {
-        budget: u32,
-        records: usize,
-    },
-    Solution {
-        intended: Choice,
-        budget: u32,
-        buffer: usize,
-        records: usize,
-    },
-    Clear,
+    Find(&'a [u8]),
+    Call(Request<'a>, Loan),
+}
+
+/// A call that is lent nothing.
+impl<'a> From<Request<'a>> for Question<'a> {
+    fn from(request: Request<'a>) -> Question<'a> {
+        Question::Call(request, Loan::default())
+    }
+}
+
+/// What a line asks for.
+#[derive(Clone, Copy)]
+pub enum Command<'a> {
+    Make { kind: Kind, policy: Policy },
+    Ask(Question<'a>),
     Help,
-    Nothing,
-    Unknown(&'a [u8]),
 }
 
-// A number for a call that takes 32 bits: the largest of them where it is larger.
-fn short(value: u64) -> u32 {
-    if value < u32::MAX as u64 {
-        value as u32
-    } else {
-        u32::MAX
-    }
+/// A number for a call that takes 32 bits: the largest of them where it is larger.
+fn short(value: usize) -> u32 {
+    u32::try_from(value).unwrap_or(u32::MAX)
 }
 
-fn by_text(word: &[u8]) -> Choice {
-    match move_text(word) {
-        Some(text) => Choice::Text(text),
-        None => Choice::Never,
-    }
-}
-
-fn by_word(word: &[u8]) -> Choice {
+/// The move that a word means.
+fn chosen(word: &[u8]) -> Choice<'_> {
     match number(word) {
-        Some(value) => Choice::Number(value as usize),
-        None => by_text(word),
+        Ok(number) => Choice::Number(number),
+        Err(Unknown(text)) => Choice::Text(text),
     }
 }
 
-// `make GAME POLICY`.
-fn make<'a>(rest: &'a [u8]) -> Command<'a> {
-    let pieces = cut(rest);
-    let kind = match pieces.word {
-        b"chess" => Kind::Chess,
-        b"othello" => Kind::Othello,
-        _ => return Command::Unknown(rest),
+/// `make GAME POLICY`.
+fn make(rest: &[u8]) -> Result<Command<'_>, Unknown<'_>> {
+    let (game, policy) = cut(rest);
+    let kind = Kind::named(game).ok_or(Unknown(rest))?;
+    let policy = policy.ok_or(Unknown(rest))?;
+    let policy = Policy::named(policy).ok_or(Unknown(policy))?;
+    Ok(Command::Make { kind, policy })
+}
+
+/// `set AIM TEXT`: the text is all that follows the blank after the aim.
+fn set(rest: &[u8]) -> Result<Question<'_>, Unknown<'_>> {
+    let (aim, text) = cut(rest);
+    let aim = short(number(aim)?);
+    let text = text.unwrap_or(b"");
+    Ok(Request::Set { aim, text }.into())
+}
+
+/// `trial BUDGET`, or `trial BUDGET RECORDS`.
+fn trial(rest: &[u8]) -> Result<Question<'_>, Unknown<'_>> {
+    let (budget, records) = cut(rest);
+    let budget = short(number(budget)?);
+    let records = records.map_or(Ok(RECORDS), number)?;
+    Ok(Question::Call(Request::Trial(budget), Loan { records, buffer: 0 }))
+}
+
+/// What a solution is lent, by what follows its budget: nothing, `BUFFER`, or `BUFFER RECORDS`.
+fn lent(rest: Option<&[u8]>) -> Result<Loan, Unknown<'_>> {
+    let Some(rest) = rest else {
+        return Ok(Loan {
+            records: RECORDS,
+            buffer: BUFFER,
+        });
     };
-    match pieces.rest {
-        Some(b"none") => Command::Make {
-            kind,
-            policy: Policy::None,
-        },
-        Some(b"newest") => Command::Make {
-            kind,
-            policy: Policy::Newest,
-        },
-        Some(policy) => Command::Unknown(policy),
-        None => Command::Unknown(rest),
+    let (buffer, records) = cut(rest);
+    let buffer = number(buffer)?;
+    let records = records.map_or(Ok(RECORDS), number)?;
+    Ok(Loan { records, buffer })
+}
+
+/// `solution MOVE BUDGET`, and what may follow it.
+fn solution(rest: &[u8]) -> Result<Question<'_>, Unknown<'_>> {
+    let (intended, budget) = cut(rest);
+    let intended = chosen(intended);
+    let (budget, rest) = cut(budget.ok_or(Unknown(rest))?);
+    let budget = short(number(budget)?);
+    Ok(Question::Call(Request::Solution { intended, budget }, lent(rest)?))
+}
+
+/// A command of one word, which is the line.
+fn single(line: &[u8]) -> Result<Command<'_>, Unknown<'_>> {
+    match line {
+        b"board" => Ok(Command::Ask(Question::Board)),
+        b"moves" => Ok(Command::Ask(Question::Moves)),
+        b"back" => Ok(Command::Ask(Request::Back.into())),
+        b"clear" => Ok(Command::Ask(Request::Clear.into())),
+        b"help" => Ok(Command::Help),
+        _ => Err(Unknown(line)),
     }
 }
 
-// `set AIM TEXT`: the text is all that follows the blank after the aim.
-fn set<'a>(rest: &'a [u8]) -> Command<'a> {
-    let pieces = cut(rest);
-    let Some(aim) = number(pieces.word) else {
-        return Command::Unknown(pieces.word);
-    };
-    Command::Set {
-        aim: short(aim),
-        text: pieces.rest.unwrap_or(b""),
-    }
-}
-
-// The number that the text ends with, or what stands for one that is left out.
-fn last<'a>(rest: Option<&'a [u8]>, left_out: u64) -> Result<usize, &'a [u8]> {
-    match rest {
-        None => Ok(left_out as usize),
-        Some(word) => match number(word) {
-            Some(value) => Ok(value as usize),
-            None => Err(word),
-        },
-    }
-}
-
-// `trial BUDGET`, or `trial BUDGET RECORDS`.
-fn trial<'a>(rest: &'a [u8]) -> Command<'a> {
-    let pieces = cut(rest);
-    let Some(budget) = number(pieces.word) else {
-        return Command::Unknown(pieces.word);
-    };
-    match last(pieces.rest, RECORDS) {
-        Ok(records) => Command::Trial {
-            budget: short(budget),
-            records,
-        },
-        Err(word) => Command::Unknown(word),
-    }
-}
-
-// What follows the budget of a solution: nothing, `BUFFER`, or `BUFFER RECORDS`.
-fn loan<'a>(intended: Choice, budget: u32, rest: &'a [u8]) -> Command<'a> {
-    let pieces = cut(rest);
-    let Some(buffer) = number(pieces.word) else {
-        return Command::Unknown(pieces.word);
-    };
-    match last(pieces.rest, RECORDS) {
-        Ok(records) => Command::Solution {
-            intended,
-            budget,
-            buffer: buffer as usize,
-            records,
-        },
-        Err(word) => Command::Unknown(word),
-    }
-}
-
-// `solution MOVE BUDGET`, and what may follow it.
-fn solution<'a>(rest: &'a [u8]) -> Command<'a> {
-    let pieces = cut(rest);
-    let intended = by_word(pieces.word);
-    let Some(rest) = pieces.rest else {
-        return Command::Unknown(rest);
-    };
-    let pieces = cut(rest);
-    let Some(budget) = number(pieces.word) else {
-        return Command::Unknown(pieces.word);
-    };
-    match pieces.rest {
-        Some(rest) => loan(intended, short(budget), rest),
-        None => Command::Solution {
-            intended,
-            budget: short(budget),
-            buffer: BUFFER as usize,
-            records: RECORDS as usize,
-        },
-    }
-}
-
-// A command of more than one word.
-fn longer<'a>(line: &'a [u8], word: &'a [u8], rest: &'a [u8]) -> Command<'a> {
+/// A command of more than one word: the first, and the rest of the line.
+fn longer<'a>(line: &'a [u8], word: &'a [u8], rest: &'a [u8]) -> Result<Command<'a>, Unknown<'a>> {
     match word {
         b"make" => make(rest),
-        b"set" => set(rest),
-        b"find" => Command::Find(by_text(rest)),
-        b"play" => Command::Play(by_word(rest)),
-        b"trial" => trial(rest),
-        b"solution" => solution(rest),
-        b"board" => Command::Unknown(rest),
-        b"moves" => Command::Unknown(rest),
-        b"back" => Command::Unknown(rest),
-        b"clear" => Command::Unknown(rest),
-        b"help" => Command::Unknown(rest),
-        _ => Command::Unknown(line),
+        b"set" => set(rest).map(Command::Ask),
+        b"find" => Ok(Command::Ask(Question::Find(rest))),
+        b"play" => Ok(Command::Ask(Request::Play(chosen(rest)).into())),
+        b"trial" => trial(rest).map(Command::Ask),
+        b"solution" => solution(rest).map(Command::Ask),
+        b"board" | b"moves" | b"back" | b"clear" | b"help" => Err(Unknown(rest)),
+        _ => Err(Unknown(line)),
     }
 }
 
-// What a line asks for.
-pub fn parse(line: &[u8]) -> Command<'_> {
-    if let [b'#', ..] = line {
-        return Command::Nothing;
+/// What a line asks for: nothing where it is empty or begins with `#`.
+pub fn parse(line: &[u8]) -> Result<Option<Command<'_>>, Unknown<'_>> {
+    if let [] | [b'#', ..] = line {
+        return Ok(None);
     }
-    let pieces = cut(line);
-    if let Some(rest) = pieces.rest {
-        return longer(line, pieces.word, rest);
-    }
-    match line {
-        b"" => Command::Nothing,
-        b"board" => Command::Board,
-        b"moves" => Command::Moves,
-        b"back" => Command::Back,
-        b"clear" => Command::Clear,
-        b"help" => Command::Help,
-        _ => Command::Unknown(line),
+    match cut(line) {
+        (word, Some(rest)) => longer(line, word, rest).map(Some),
+        (_, None) => single(line).map(Some),
     }
 }

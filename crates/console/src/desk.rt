@@ -1,49 +1,49 @@
-use crate::command::Command;
+use crate::command::{BUFFER, Question, RECORDS};
 use crate::picture::Picture;
 use crate::{calls, show};
+use std::alloc::{AllocError, Global};
 use std::io;
 use table::{Pair, Table};
 use tester::Tester;
 
-// How many records and bytes a command lends to its call.
-fn loan(command: Command<'_>) -> (usize, usize) {
-    match command {
-        Command::Trial { records, .. } => (records, 0),
-        Command::Solution {
-            buffer,
-            records,
-            ..
-        } => (records, buffer),
-        _ => (0, 0),
-    }
+/// What is lent to calls: at most what a call can use, and one line of a buffer more, so that a longer one is declined as it should be.
+#[derive(Drop)]
+pub struct Desk {
+    records: Vec<Pair>,
+    buffer: Vec<u8>,
 }
 
-// Answers a command on the page. Of the records and the buffer, as much is lent as the command says.
-pub fn answer<G: Picture, T: Table>(
-    tester: &mut Tester<G, T>,
-    page: &mut Vec<u8>,
-    command: Command<'_>,
-    records: &mut [Pair],
-    buffer: &mut [u8],
-) -> io::Result<()> {
-    if let Some(call) = calls::asked(command, tester.game()) {
-        let (most, bytes) = loan(command);
-        let most = most.min(records.len());
-        let bytes = bytes.min(buffer.len());
-        return calls::perform(
-            page,
-            tester,
-            call,
-            &mut records[..most],
-            &mut buffer[..bytes],
-        );
+impl Desk {
+    /// Records enough for a trial, and a buffer longer than the longest that a solution takes.
+    pub fn new(heap: Global) -> Result<Desk, AllocError> {
+        Ok(Desk {
+            records: vec![in heap; Pair::FRESH; RECORDS]?,
+            buffer: vec![in heap; b' '; BUFFER + 8]?,
+        })
     }
-    match command {
-        Command::Board => tester.game().draw(page),
-        Command::Moves => show::moves(page, tester.game()),
-        Command::Find(choice) => calls::find(page, tester.game(), choice),
-        Command::Help => show::help(page),
-        Command::Unknown(what) => show::unknown(page, what),
-        _ => Ok(()),
+
+    /// Answers a question on the page. Of the records and the buffer, as much is lent as the question says.
+    pub fn answer<G: Picture, T: Table>(
+        &mut self,
+        tester: &mut Tester<G, T>,
+        page: &mut Vec<u8>,
+        question: Question<'_>,
+    ) -> io::Result<()> {
+        match question {
+            Question::Board => tester.game().draw(page),
+            Question::Moves => show::moves(page, tester.game()),
+            Question::Find(text) => calls::find(page, tester.game(), text),
+            Question::Call(request, loan) => {
+                let records = loan.records.min(self.records.len());
+                let buffer = loan.buffer.min(self.buffer.len());
+                calls::perform(
+                    page,
+                    tester,
+                    request,
+                    &mut self.records[..records],
+                    &mut self.buffer[..buffer],
+                )
+            }
+        }
     }
 }

@@ -1,57 +1,89 @@
-use crate::command::{Command, Kind, Policy};
-use crate::desk::answer;
+use crate::command::{Command, Kind, Policy, Question};
+use crate::desk::Desk;
+use crate::picture::Picture;
 use crate::show;
 use chess::Chess;
 use othello::Othello;
 use std::alloc::{AllocError, Global};
 use std::io;
-use table::{Newest, NoTable, Pair};
+use std::io::Write;
+use table::{Newest, NoTable};
 use tester::Tester;
 
-// What was made last: a tester of a game with a table of one of the policies.
+/// A tester of the game, with a table of one of the policies.
 #[derive(Drop)]
-pub enum Hall {
-    ChessNone(Tester<Chess, NoTable>),
-    ChessNewest(Tester<Chess, Newest>),
-    OthelloNone(Tester<Othello, NoTable>),
-    OthelloNewest(Tester<Othello, Newest>),
+enum Seat<G: Picture> {
+    None(Tester<G, NoTable>),
+    Newest(Tester<G, Newest>),
+}
+
+impl<G: Picture> Seat<G> {
+    fn new(heap: Global, policy: Policy) -> Result<Seat<G>, AllocError> {
+        Ok(match policy {
+            Policy::None => Seat::None(Tester::new(NoTable)),
+            Policy::Newest => Seat::Newest(Tester::new(Newest::new(heap)?)),
+        })
+    }
+
+    fn answer(
+        &mut self,
+        desk: &mut Desk,
+        page: &mut Vec<u8>,
+        question: Question<'_>,
+    ) -> io::Result<()> {
+        match self {
+            Seat::None(tester) => desk.answer(tester, page, question),
+            Seat::Newest(tester) => desk.answer(tester, page, question),
+        }
+    }
+}
+
+/// A tester of one of the games.
+#[derive(Drop)]
+enum Made {
+    Chess(Seat<Chess>),
+    Othello(Seat<Othello>),
+}
+
+impl Made {
+    fn new(heap: Global, kind: Kind, policy: Policy) -> Result<Made, AllocError> {
+        Ok(match kind {
+            Kind::Chess => Made::Chess(Seat::new(heap, policy)?),
+            Kind::Othello => Made::Othello(Seat::new(heap, policy)?),
+        })
+    }
+}
+
+/// The tester that was made last, and what is lent to its calls.
+#[derive(Drop)]
+pub struct Hall {
+    heap: Global,
+    made: Made,
+    desk: Desk,
 }
 
 impl Hall {
-    // Before the first `make`: chess, with the newest policy.
+    /// Before the first `make`: chess, with the newest policy.
     pub fn new(heap: Global) -> Result<Hall, AllocError> {
-        Hall::make(heap, Kind::Chess, Policy::Newest)
+        Ok(Hall {
+            heap,
+            made: Made::new(heap, Kind::Chess, Policy::Newest)?,
+            desk: Desk::new(heap)?,
+        })
     }
 
-    fn make(heap: Global, kind: Kind, policy: Policy) -> Result<Hall, AllocError> {
-        match (kind, policy) {
-            (Kind::Chess, Policy::None) => Ok(Hall::ChessNone(Tester::new(NoTable))),
-            (Kind::Chess, Policy::Newest) => Ok(Hall::ChessNewest(Tester::new(Newest::new(heap)?))),
-            (Kind::Othello, Policy::None) => Ok(Hall::OthelloNone(Tester::new(NoTable))),
-            (Kind::Othello, Policy::Newest) => Ok(Hall::OthelloNewest(Tester::new(Newest::new(
-                heap,
-            )?))),
-        }
-    }
-
-    // Answers a command on the page.
-    pub fn answer(
-        &mut self,
-        heap: Global,
-        page: &mut Vec<u8>,
-        command: Command<'_>,
-        records: &mut [Pair],
-        buffer: &mut [u8],
-    ) -> io::Result<()> {
-        if let Command::Make { kind, policy } = command {
-            *self = Hall::make(heap, kind, policy)?;
-            return show::made(page, kind, policy);
-        }
-        match self {
-            Hall::ChessNone(tester) => answer(tester, page, command, records, buffer),
-            Hall::ChessNewest(tester) => answer(tester, page, command, records, buffer),
-            Hall::OthelloNone(tester) => answer(tester, page, command, records, buffer),
-            Hall::OthelloNewest(tester) => answer(tester, page, command, records, buffer),
+    /// Answers a command on the page.
+    pub fn answer(&mut self, page: &mut Vec<u8>, command: Command<'_>) -> io::Result<()> {
+        match command {
+            Command::Make { kind, policy } => {
+                self.made = Made::new(self.heap, kind, policy)?;
+                writeln!(page, "made {kind} {policy}")
+            }
+            Command::Ask(question) => match &mut self.made {
+                Made::Chess(seat) => seat.answer(&mut self.desk, page, question),
+                Made::Othello(seat) => seat.answer(&mut self.desk, page, question),
+            },
+            Command::Help => show::help(page),
         }
     }
 }

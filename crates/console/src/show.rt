@@ -1,80 +1,54 @@
-use crate::command::{Kind, Policy};
-use game::{Game, State};
-use search_laws::{Answer, Verdict};
+use game::Game;
+use search_laws::Answer;
 use solution::Solution;
-use solution_laws::Ending;
 use std::io;
 use std::io::Write;
 
-// The bytes, and the end of a line.
+/// The bytes, and the end of a line.
 pub fn line(page: &mut Vec<u8>, bytes: &[u8]) -> io::Result<()> {
     page.write_all(bytes)?;
     page.write_all(b"\n")
 }
 
-// The state and the number of moves, then a line for each move: its number and its text.
+/// The state and the number of moves, then a line for each move: its number and its text.
 pub fn moves<G: Game>(page: &mut Vec<u8>, game: &G) -> io::Result<()> {
     let count = game.count();
-    let state = match game.state() {
-        State::Won => "won",
-        State::NotWon => "not-won",
-        State::Attacker => "attacker",
-        State::Defender => "defender",
-    };
-    writeln!(page, "{state}, {count} moves")?;
-    for i in 0..count {
-        if let Some(text) = game.text(i) {
-            write!(page, "{i} ")?;
-            line(page, &text)?;
-        }
+    writeln!(page, "{}, {count} moves", game.state())?;
+    for (number, text) in (0..count).map_while(|number| game.text(number)).enumerate() {
+        write!(page, "{number} ")?;
+        line(page, &text)?;
     }
     Ok(())
 }
 
-// A trial's verdict, expansions and entries.
+/// A trial's verdict, expansions and entries.
 pub fn answer(page: &mut Vec<u8>, answer: Answer) -> io::Result<()> {
-    let verdict = match answer.verdict {
-        Verdict::Won => "won",
-        Verdict::NotWon => "not-won",
-        Verdict::Spent => "spent",
-    };
-    writeln!(page, "{verdict} {} {}", answer.expansions, answer.entries)
+    writeln!(
+        page,
+        "{} {} {}",
+        answer.verdict, answer.expansions, answer.entries
+    )
 }
 
-// The lines of a solution, one a line, how it ended, and what it counted.
+/// The lines of a solution, one a line, how it ended, and what it counted.
 pub fn solution(page: &mut Vec<u8>, solution: Solution, buffer: &[u8]) -> io::Result<()> {
     for bytes in buffer.chunks(8).take(solution.lines) {
         line(page, bytes)?;
     }
-    let end = match solution.ending {
-        Ending::Done => "done",
-        Ending::Spent => "spent",
-        Ending::Cut => "cut",
-    };
     writeln!(
         page,
-        "{end} lines {} keys {} duals {} sum {}",
-        solution.lines, solution.keys, solution.duals, solution.sum
+        "{} lines {} keys {} duals {} sum {}",
+        solution.ending, solution.lines, solution.keys, solution.duals, solution.sum
     )
 }
 
+/// What was not understood.
 pub fn unknown(page: &mut Vec<u8>, what: &[u8]) -> io::Result<()> {
     page.write_all(b"unknown: ")?;
     line(page, what)
 }
 
-pub fn made(page: &mut Vec<u8>, kind: Kind, policy: Policy) -> io::Result<()> {
-    let game = match kind {
-        Kind::Chess => "chess",
-        Kind::Othello => "othello",
-    };
-    let table = match policy {
-        Policy::None => "none",
-        Policy::Newest => "newest",
-    };
-    writeln!(page, "made {game} {table}")
-}
-
+/// The list of the commands.
 pub fn help(page: &mut Vec<u8>) -> io::Result<()> {
     page.write_all(
         b"make GAME POLICY                          a fresh game: chess or othello; table policy none or newest

@@ -1,53 +1,35 @@
 // The words of a command line, and what a word may stand for.
 
-// A word, and what follows the blank after it: nothing where no blank follows.
+/// What of a line is not understood.
 #[derive(Clone, Copy)]
-pub struct Pieces<'a> {
-    pub word: &'a [u8],
-    pub rest: Option<&'a [u8]>,
-}
+pub struct Unknown<'a>(pub &'a [u8]);
 
-// The part of the text before its first blank, and the part after it.
-pub fn cut(text: &[u8]) -> Pieces<'_> {
-    for (i, byte) in text.iter().enumerate() {
-        if *byte == b' ' {
-            return Pieces {
-                word: &text[..i],
-                rest: Some(&text[i + 1..]),
-            };
-        }
-    }
-    Pieces {
-        word: text,
-        rest: None,
+/// The part of the text before its first blank, and the part after it: none where there is no blank.
+pub fn cut(text: &[u8]) -> (&[u8], Option<&[u8]>) {
+    match text.iter().position(|byte| *byte == b' ') {
+        Some(blank) => (&text[..blank], Some(&text[blank + 1..])),
+        None => (text, None),
     }
 }
 
-// The number that a word of decimal digits stands for, the largest of its type where it is larger.
-pub fn number(word: &[u8]) -> Option<u64> {
+/// The number that a word of decimal digits stands for, the largest of its type where it is larger.
+pub fn number(word: &[u8]) -> Result<usize, Unknown<'_>> {
     if word.is_empty() {
-        return None;
+        return Err(Unknown(word));
     }
-    let mut value = 0u64;
-    for byte in word {
-        match byte {
-            b'0'..=b'9' => value = value
+    word.iter().try_fold(0usize, |value, byte| match byte {
+        b'0'..=b'9' => Ok(
+            value
                 .saturating_mul(10)
-                .saturating_add((*byte - b'0') as u64),
-            _ => return None,
-        }
-    }
-    Some(value)
+                .saturating_add((*byte - b'0') as usize),
+        ),
+        _ => Err(Unknown(word)),
+    })
 }
 
-// A move's text, filled up with blanks to five bytes: none where it is longer.
+/// A move's text, filled up with blanks to five bytes: none where it is longer.
 pub fn move_text(word: &[u8]) -> Option<[u8; 5]> {
-    if word.len() > 5 {
-        return None;
-    }
     let mut text = [b' '; 5];
-    for (i, byte) in word.iter().enumerate() {
-        text[i] = *byte;
-    }
+    text.get_mut(..word.len())?.copy_from_slice(word);
     Some(text)
 }

@@ -4,11 +4,11 @@
 // its verdict, which an exhaustive search from outside has confirmed, to standard output.
 use game::Game;
 use othello::Othello;
-use search_laws::{Answer, Verdict};
+use search_laws::Answer;
 use std::io;
 use table::{Newest, NoTable, Pair, Table};
 
-// An ending: its empty squares, the aim, and its text.
+/// An ending: its empty squares, the aim, and its text.
 struct Ending {
     empties: u8,
     aim: u32,
@@ -68,24 +68,20 @@ const ENDINGS: [Ending; 10] = [
     },
 ];
 
+/// The budget of each trial.
 const BUDGET: u32 = 20_000_000;
 
-fn verdict_word(verdict: Verdict) -> &'static str {
-    match verdict {
-        Verdict::Won => "won",
-        Verdict::NotWon => "not-won",
-        Verdict::Spent => "spent",
-    }
-}
-
-// A trial of the game's position, from an empty table.
-fn tried<T: Table + Drop>(game: &mut Othello, table: T, records: &mut [Pair]) -> Option<Answer> {
-    let mut table = table;
+/// A trial of the game's position, from an empty table.
+fn tried<T: Table + Drop>(
+    game: &mut Othello,
+    mut table: T,
+    records: &mut [Pair],
+) -> Option<Answer> {
     table.clear();
     search::trial(game, &mut table, BUDGET, records).ok()
 }
 
-// One policy's answer.
+/// One policy's answer.
 fn report<T: Table + Drop>(
     rt: &HostRuntime,
     policy: &str,
@@ -100,19 +96,21 @@ fn report<T: Table + Drop>(
     let Some(answer) = tried(&mut game, table, records) else {
         return println!(rt; "declined");
     };
-    let empties = ending.empties;
-    let aim = ending.aim;
-    let word = verdict_word(answer.verdict);
-    println!(rt; "{empties} empty, aim {aim}, table {policy}: {word}")?;
+    let Ending { empties, aim, .. } = ending;
+    let Answer {
+        verdict,
+        expansions,
+        entries,
+    } = answer;
+    println!(rt; "{empties} empty, aim {aim}, table {policy}: {verdict}")?;
     eprintln!(rt;
-        "{empties} empty, aim {aim}, table {policy}: {} expansions, {} entries",
-        answer.expansions, answer.entries
+        "{empties} empty, aim {aim}, table {policy}: {expansions} expansions, {entries} entries"
     )
 }
 
 fn main(rt: HostRuntime) -> io::Result<()> {
     let heap = rt.alloc();
-    let mut records = vec![in heap; Pair::FRESH; 6144]?;
+    let mut records = vec![in heap; Pair::FRESH; search::RECORDS]?;
     for ending in &ENDINGS {
         report(&rt, "none", ending, NoTable, &mut records)?;
         report(&rt, "newest", ending, Newest::new(heap)?, &mut records)?;

@@ -13,11 +13,9 @@ fn leaves(diagram: &Diagram, depth: u8) -> u64 {
         Turn::Place => {
             let placements = diagram.placements();
             let mut sum = 0u64;
-            for i in 0..placements.count() {
-                if let Some(square) = placements.get(i) {
-                    if let Some(next) = diagram.place(square) {
-                        sum = sum.wrapping_add(leaves(&next, depth - 1));
-                    }
+            for square in placements.as_slice() {
+                if let Some(next) = diagram.place(*square) {
+                    sum = sum.wrapping_add(leaves(&next, depth - 1));
                 }
             }
             sum

@@ -1,6 +1,6 @@
 -- A loop that performs calls.
-use Rattle.std.proofs.Common.{◌≡◌, ℕ, zero, suc, ◌+◌, ◌<◌, min, List, [], ◌∷◌, ◌++◌, length, get_or, take, drop, set, sym, refl, ap, ◌∙◌, subst, arith}
-use Rattle.std.proofs.lemmas.List.{take_more, take_more_set, drop-drop}
+use Rattle.std.proofs.Common.{◌≡◌, ℕ, ◌+◌, ◌<◌, min, List, [], ◌∷◌, ◌++◌, length, get_or, take, drop, set, sym, refl, ap, ◌∙◌, subst, arith, get_or-take}
+use Rattle.std.proofs.lemmas.List.{take_more, take_more_set, drop-drop, drop-set-lt}
 use Rattle.game.specs.declared.game.Game as game
 use Rattle.table.specs.declared.Table as table
 use Rattle.tester.specs.declared.reply.Reply.{Reply}
@@ -19,11 +19,6 @@ pub record Underway {G T : Type 0} (g : game.Ghosts G) (h : table.Ghosts T) (cs 
 
 -- one call more
 
-drop-set : {A : Type 0} (xs : List A) (i : ℕ) (a : A) → drop (suc i) (set xs i a) ≡ drop (suc i) xs
-drop-set [] i a = refl
-drop-set (x ∷ xs) zero a = refl
-drop-set (x ∷ xs) (suc i) a = drop-set xs i a
-
 abbrev event : Call → Lent → Reply → Lent → Event
 event c l a k = record { call = asked c; lent = l; reply = a; left = k }
 
@@ -32,29 +27,20 @@ also_replied : {cs : List Call} {rs : List Reply} {es : List Event} {l l' : Lent
 also_replied c a k performed.none = next refl performed.none
 also_replied c a k (next e r) = next e (also_replied c a k r)
 
-also_called : {G T : Type 0} {g : game.Ghosts G} {h : table.Ghosts T} {s s' s'' : Stand} {es : List Event} (e : Event) → Calls g h s es s' → Does g h s' e.call e.lent e.reply e.left s''
-    → Calls g h s (es ++ (e ∷ [])) s''
-also_called e none d = then d none
-also_called e (then k r) d = then k (also_called e r d)
-
 module _ {G T : Type 0} (g : game.Ghosts G) (h : table.Ghosts T) (cs : List Call) (s : Stand) (l : Lent) (rs : List Reply) where
-  pub turn : (i : ℕ) (d : Call) (a : Reply) (s' s'' : Stand) (l' k : Lent) (rs' : List Reply) → i < length cs → i < length rs'
-      → Underway g h cs s l rs i s' l' rs' → Does g h s' (asked (get_or cs i d)) l' a k s'' → Underway g h cs s l rs (i + 1) s'' k (set rs' i a)
-  turn i d a s' s'' l' k rs' m n u e =
+  pub turn : (most i : ℕ) (d : Call) (a : Reply) (s' s'' : Stand) (l' k : Lent) (rs' : List Reply) → i < most → i < length cs → i < length rs'
+      → Underway g h cs s l rs i s' l' rs' → Does g h s' (asked (get_or (take most cs) i d)) l' a k s'' → Underway g h cs s l rs (i + 1) s'' k (set rs' i a)
+  turn most i d a s' s'' l' k rs' o m n u e =
       let c = get_or cs i d in
       let es = u.events ++ (event c l' a k ∷ []) in
       let p = take_more cs i d m in
       let q = take_more_set rs' i a n in
-      let z : i + 1 ≡ suc i = omega arith in
       record {
         events = es;
         replied = subst (λ (x : Type 0). x) (λ j. Replied (sym p j) (sym q j) l es k) (also_replied c a k u.replied);
-        rest = ap (λ (x : ℕ). drop x (set rs' i a)) z ∙ drop-set rs' i a ∙ after rs' ∙ ap (drop 1) u.rest ∙ sym (after rs) ∙ ap (λ (x : ℕ). drop x rs) (sym z);
-        run = also_called (event c l' a k) u.run e;
+        rest = drop-set-lt (i + 1) rs' i a (omega arith) ∙ sym (drop-drop 1 i rs') ∙ ap (drop 1) u.rest ∙ drop-drop 1 i rs;
+        run = joined u.run (then {e = event c l' a k} (rw get_or-take at e) none);
       }
-    where
-      after : (xs : List Reply) → drop (suc i) xs ≡ drop 1 (drop i xs)
-      after xs = ap (λ (x : ℕ). drop x xs) (let y : suc i ≡ i + 1 = omega arith in y) ∙ sym (drop-drop 1 i xs)
 
   pub over : EveryListStands g h → (n : ℕ) (s' : Stand) (l' : Lent) (rs' : List Reply) → n ≡ min (length cs) (length rs) → Underway g h cs s l rs n s' l' rs' → Performed g h cs s l rs n s' l' rs'
   over every n s' l' rs' e u = record {

@@ -13,11 +13,10 @@ use solution::{Solution, solve};
 use table::{Pair, Table};
 
 impl<G: Game, T: Table> Tester<G, T> {
-    // Makes a tester: takes a table, clears it and starts a fresh game.
-    pub fn new(table: T) -> Self
+    /// Makes a tester: takes a table, clears it and starts a fresh game.
+    pub fn new(mut table: T) -> Self
         ensures { stand G.Game T.Table result ≡ made G.Game }
     {
-        let mut table = table;
         table.clear();
         Tester {
             game: G::fresh(),
@@ -25,14 +24,14 @@ impl<G: Game, T: Table> Tester<G, T> {
         }
     }
 
-    // The game, to ask about its current position.
+    /// The game, to ask about its current position.
     pub fn game(&self) -> &G
         ensures { result.now ≡ self.now.game }
     {
         &self.game
     }
 
-    // Sets up what a text says under an aim: it is then the whole path. The table is kept.
+    /// Sets up what a text says under an aim: it is then the whole path. The table is kept.
     pub fn set(&mut self, text: &[u8], aim: u32) -> Result<(), SetDecline>
         ensures does { Does G.Game T.Table (stand G.Game T.Table self.old) (calls.set text.now aim) no_loan (set_reply result) no_loan (stand G.Game T.Table self.new) }
         ensures table { T.Table.held self.new.table ≡ T.Table.held self.old.table }
@@ -40,7 +39,7 @@ impl<G: Game, T: Table> Tester<G, T> {
         self.game.set(text, aim)
     }
 
-    // Plays a move. The table is kept.
+    /// Plays a move. The table is kept.
     pub fn play(&mut self, i: usize) -> Result<(), Decline>
         ensures does { Does G.Game T.Table (stand G.Game T.Table self.old) (calls.play i) no_loan (move_reply result) no_loan (stand G.Game T.Table self.new) }
         ensures table { T.Table.held self.new.table ≡ T.Table.held self.old.table }
@@ -48,7 +47,7 @@ impl<G: Game, T: Table> Tester<G, T> {
         self.game.play(i)
     }
 
-    // Takes the last move back. The table is kept.
+    /// Takes the last move back. The table is kept.
     pub fn take_back(&mut self) -> Result<(), Decline>
         ensures does { Does G.Game T.Table (stand G.Game T.Table self.old) calls.take_back no_loan (move_reply result) no_loan (stand G.Game T.Table self.new) }
         ensures table { T.Table.held self.new.table ≡ T.Table.held self.old.table }
@@ -56,7 +55,7 @@ impl<G: Game, T: Table> Tester<G, T> {
         self.game.take_back()
     }
 
-    // Empties the table. The path is kept.
+    /// Empties the table. The path is kept.
     pub fn clear(&mut self)
         ensures does { Does G.Game T.Table (stand G.Game T.Table self.old) calls.clear no_loan replies.Done no_loan (stand G.Game T.Table self.new) }
         ensures at { G.Game.current self.new.game ≡ G.Game.current self.old.game }
@@ -65,17 +64,17 @@ impl<G: Game, T: Table> Tester<G, T> {
         self.table.clear();
     }
 
-    // A trial of the current position. The path is kept.
+    /// A trial of the current position. The path is kept.
     pub fn trial(&mut self, budget: u32, records: &mut [Pair]) -> Result<Answer, Decline>
-        ensures does { Does G.Game T.Table (stand G.Game T.Table self.old) (calls.trial budget) (record { records = records.entry.now; buffer = [] }) (trial_reply result) (record { records = records.exit.now; buffer = [] }) (stand G.Game T.Table self.new) }
+        ensures does { Does G.Game T.Table (stand G.Game T.Table self.old) (calls.trial budget) (record { records = records.old; buffer = [] }) (trial_reply result) (record { records = records.new; buffer = [] }) (stand G.Game T.Table self.new) }
         ensures at { G.Game.current self.new.game ≡ G.Game.current self.old.game }
         ensures path { G.Game.earlier self.new.game ≡ G.Game.earlier self.old.game }
-        ensures right { RightAfter G.Game T.Table (stand G.Game T.Table self.old) (calls.trial budget) (trial_reply result) (record { records = records.exit.now; buffer = [] }) }
+        ensures right { RightAfter G.Game T.Table (stand G.Game T.Table self.old) (calls.trial budget) (trial_reply result) (record { records = records.new; buffer = [] }) }
     {
         trial(&mut self.game, &mut self.table, budget, records)
     }
 
-    // A solution of the current position, with its lines in the buffer. The path is kept.
+    /// A solution of the current position, with its lines in the buffer. The path is kept.
     pub fn solution(
         &mut self,
         intended: usize,
@@ -83,10 +82,10 @@ impl<G: Game, T: Table> Tester<G, T> {
         records: &mut [Pair],
         buffer: &mut [u8],
     ) -> Result<Solution, Decline>
-        ensures does { Does G.Game T.Table (stand G.Game T.Table self.old) (calls.solution intended budget) (record { records = records.entry.now; buffer = buffer.old }) (solution_reply result) (record { records = records.exit.now; buffer = buffer.new }) (stand G.Game T.Table self.new) }
+        ensures does { Does G.Game T.Table (stand G.Game T.Table self.old) (calls.solution intended budget) (record { records = records.old; buffer = buffer.old }) (solution_reply result) (record { records = records.new; buffer = buffer.new }) (stand G.Game T.Table self.new) }
         ensures at { G.Game.current self.new.game ≡ G.Game.current self.old.game }
         ensures path { G.Game.earlier self.new.game ≡ G.Game.earlier self.old.game }
-        ensures right { RightAfter G.Game T.Table (stand G.Game T.Table self.old) (calls.solution intended budget) (solution_reply result) (record { records = records.exit.now; buffer = buffer.new }) }
+        ensures right { RightAfter G.Game T.Table (stand G.Game T.Table self.old) (calls.solution intended budget) (solution_reply result) (record { records = records.new; buffer = buffer.new }) }
     {
         solve(
             &mut self.game,

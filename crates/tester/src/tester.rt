@@ -1,7 +1,7 @@
 use game::Game;
 use table::Table;
 
-// A game and what is remembered of its positions.
+/// A game, with the path from its first position to the current one, and a table of what searches found.
 #[derive(Drop)]
 pub struct Tester<G: Game, T: Table> {
     pub(crate) game: G,

@@ -3,16 +3,12 @@ ghost use Rattle.tester.specs.Claims.{EveryListStands, OneWay};
 use game::Game;
 use table::Table;
 
-// In every list of calls that begins with a making, over every game and every table, each call is right.
-pub fn every_list_stands<G: Game, T: Table>() -> u8
+/// In every list of calls that begins with a making, over every game and every table, each call is right.
+pub fn every_list_stands<G: Game, T: Table>()
     ensures { EveryListStands G.Game T.Table }
-{
-    0
-}
+{}
 
-// From wherever a tester stands, each call has one outcome: what it answers, and what it leaves in path, table and buffer.
-pub fn one_way<G: Game, T: Table>() -> u8
+/// From wherever a tester stands, each call has one outcome: what it answers, and what it leaves in path, table and buffer.
+pub fn one_way<G: Game, T: Table>()
     ensures { OneWay G.Game T.Table }
-{
-    0
-}
+{}

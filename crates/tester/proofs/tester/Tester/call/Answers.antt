@@ -4,16 +4,16 @@ use Rattle.tester.proofs.Doing.{set_lent, play_lent, back_lent, clear_lent, tria
 use Rattle.tester.proofs.tester.Tester.call.Goals as goal
 
 pub returns-in-Set : goal.returns-in-Set
-returns-in-Set g c = renamed (ap asked c.in-Set.is) c.of_set.ensures (set_lent _ c.set.ensures.does)
+returns-in-Set g c = renamed (ap asked c.in-Set.is) c.into.ensures (set_lent _ c.set.ensures.does)
 
 pub returns-in-Play : goal.returns-in-Play
-returns-in-Play g c = renamed (ap asked c.in-Play.is) c.of_move.ensures (play_lent _ c.play.ensures.does)
+returns-in-Play g c = renamed (ap asked c.in-Play.is) c.into-in-Play.ensures (play_lent _ c.play.ensures.does)
 
 pub returns-in-TakeBack : goal.returns-in-TakeBack
-returns-in-TakeBack g c = renamed (ap asked c.in-TakeBack.is) c.of_move-in-TakeBack.ensures (back_lent _ c.take_back.ensures.does)
+returns-in-TakeBack g c = renamed (ap asked c.in-TakeBack.is) c.into-in-TakeBack.ensures (back_lent _ c.take_back.ensures.does)
 
 pub returns-in-Trial : goal.returns-in-Trial
-returns-in-Trial g c = renamed (ap asked c.in-Trial.is) c.of_trial.ensures (trial_lent c.args.buffer.now c.trial.ensures.does)
+returns-in-Trial g c = renamed (ap asked c.in-Trial.is) c.into-in-Trial.ensures (trial_lent c.args.buffer.now c.trial.ensures.does)
 
 pub returns-in-Clear : goal.returns-in-Clear
 returns-in-Clear g c = renamed (ap asked c.in-Clear.is) refl (clear_lent _ c.clear.ensures.does)

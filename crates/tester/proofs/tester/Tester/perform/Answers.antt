@@ -1,4 +1,4 @@
-use Rattle.std.proofs.Common.{◌≡◌, ℕ, [], refl, subst, arith}
+use Rattle.std.proofs.Common.{◌≡◌, ℕ, ◌<◌, [], refl, subst, arith, length-take}
 use Rattle.tester.specs.Calls.{none, Lent, stand}
 use Rattle.tester.specs.Performed as performed
 use Rattle.tester.proofs.Lists.{theorems, every}
@@ -11,13 +11,14 @@ loop-i-init g c = record { events = []; replied = performed.none; rest = refl; r
 
 pub loop-i-preserved : goal.loop-i-preserved
 loop-i-preserved g c =
+    let here : c.loop-i.i < c.min-n.result = omega (arith, length-take c.min-n.result c.args.calls.now) in
     turn g.G.Game g.T.Table c.args.calls.now (stand g.G.Game g.T.Table c.args.self.now) (record { records = c.args.records.now; buffer = c.args.buffer.now }) c.args.replies.now
-    c.loop-i.i _ c.call.result _ _ _ _ c.loop-i.replies (omega arith) (omega arith) c.loop-i.invariant c.call.ensures
+    c.min-n.result c.loop-i.i _ c.call.result _ _ _ _ c.loop-i.replies here (omega arith) (omega arith) c.loop-i.invariant c.call.ensures
 
 pub returns : goal.returns
 returns g c =
     let e = every g.G.Game g.T.Table (theorems g.G.Game g.T.Table g.met.G.Game.lawful (record { own = g.met.T.Table.own; other = g.met.T.Table.other })) in
-    let n : c.loop-i.i ≡ c.min-n.result = omega arith in
+    let n : c.loop-i.i ≡ c.min-n.result = omega (arith, length-take c.min-n.result c.args.calls.now) in
     let from = stand g.G.Game g.T.Table c.args.self.now in
     let lent : Lent = record { records = c.args.records.now; buffer = c.args.buffer.now } in
     let to = stand g.G.Game g.T.Table c.loop-i.self in

@@ -1,6 +1,6 @@
 -- Trials of all moves, one after another.
 use Rattle.std.proofs.Common.{◌≡◌, ℕ, zero, suc, ◌+◌, ◌*◌, ◌<◌, ◌≤◌, Bool, true, false, List, [], ◌∷◌, ◌++◌, length, get_or, take, set, Ok, Err, Some, None, Option, sym, refl, ap, ◌∙◌, subst, append_assoc, append-nil, suc-mul, Result, arith}
-use Rattle.std.proofs.lemmas.List.{take_more_set}
+use Rattle.std.proofs.lemmas.List.{length_push}
 use Rattle.std.proofs.ByRecursion.{All-get_or}
 use Rattle.game.specs.Rules.{Rules}
 use Rattle.game.specs.Tree.{Tree, Moves, none, move, nowhere, successors, texts, Reading, next, rank}
@@ -73,30 +73,33 @@ beyond_end (suc i) (move x t m) l = beyond_end i m (omega arith)
 
 -- Before the move of number i: the sum so far, from n to n', and how the other moves' trials go on is how all go on.
 pub record Trying (stored : Storing) (b : ℕ) (held : Held) (m : Moves) (n : ℕ) (i : ℕ) (flags : List Bool) (held' : Held) (n' : ℕ) : Type 0 where
+  pub count : length flags ≡ i
   pub so_far : ℕ
   pub sum : n' ≡ n + so_far
   pub bound : so_far ≤ 99999999 * i
-  pub all : (ws : List Bool) (k : ℕ) (h : Held) → AllTried stored b held' (beyond i m) ws k h → AllTried stored b held m (take i flags ++ ws) (so_far + k) h
+  pub all : (ws : List Bool) (k : ℕ) (h : Held) → AllTried stored b held' (beyond i m) ws k h → AllTried stored b held m (flags ++ ws) (so_far + k) h
   pub stop : (k : ℕ) (h : Held) → Stops stored b held' (beyond i m) k h → Stops stored b held m (so_far + k) h
 
 module _ (stored : Storing) (b : ℕ) (held : Held) (m : Moves) (n : ℕ) where
-  pub trying_start : (flags : List Bool) → Trying stored b held m n 0 flags held n
+  pub trying_start : (flags : List Bool) → flags ≡ [] → Trying stored b held m n 0 flags held n
   unfolding beyond
-  trying_start flags = record {
+  trying_start flags e = record {
+    count = ap length e;
     so_far = 0;
     sum = omega arith;
     bound = omega arith;
-    all = λ ws k h a. subst (λ (x : ℕ). AllTried stored b held m ws x h) (let e : k ≡ 0 + k = omega arith in e) a;
+    all = λ ws k h a. subst (λ (fs : List Bool). AllTried stored b held m (fs ++ ws) (0 + k) h) (sym e) (subst (λ (x : ℕ). AllTried stored b held m ws x h) (let s : k ≡ 0 + k = omega arith in s) a);
     stop = λ k h a. subst (λ (x : ℕ). Stops stored b held m x h) (let e : k ≡ 0 + k = omega arith in e) a;
   }
 
   module _ (i : ℕ) (flags : List Bool) (n' : ℕ) (h h' : Held) (a : Answer) (low : i < length (successors m)) (small : b ≤ 99999999)
       (t : Trying stored b held m n i flags h n') (r : Trial stored h (get_or (successors m) i nowhere) b a h') where
-    pub trying_next : (w : Bool) → i < length flags → a.verdict ≡ verdict_of w → Trying stored b held m n (i + 1) (set flags i w) h' (n' + cost a)
-    trying_next w f v =
+    pub trying_next : (w : Bool) (more : List Bool) → more ≡ flags ++ (w ∷ []) → a.verdict ≡ verdict_of w → Trying stored b held m n (i + 1) more h' (n' + cost a)
+    trying_next w more pushed v =
         let e = beyond-next i m low in
         let p : suc i ≡ i + 1 = omega arith in
         record {
+          count = ap length pushed ∙ length_push flags w ∙ ap (λ (j : ℕ). j + 1) t.count;
           so_far = t.so_far + cost a;
           sum = omega (arith, t.sum);
           bound = omega (arith, t.bound, affordable r);
@@ -104,8 +107,8 @@ module _ (stored : Storing) (b : ℕ) (held : Held) (m : Moves) (n : ℕ) where
               let x' = subst (λ (j : ℕ). AllTried stored b h' (beyond j m) ws k z) (sym p) x in
               let y = t.all (w ∷ ws) (cost a + k) z (subst (λ (q : Moves). AllTried stored b h q (w ∷ ws) (cost a + k) z) (sym e) (tried r v x')) in
               let s : t.so_far + (cost a + k) ≡ (t.so_far + cost a) + k = omega arith in
-              let u : take i flags ++ (w ∷ ws) ≡ take (i + 1) (set flags i w) ++ ws = sym (append_assoc (take i flags) (w ∷ []) ws) ∙ ap (λ (q : List Bool). q ++ ws) (sym (take_more_set flags i w f)) in
-              subst (λ (q : List Bool). AllTried stored b held m q ((t.so_far + cost a) + k) z) u (subst (λ (q : ℕ). AllTried stored b held m (take i flags ++ (w ∷ ws)) q z) s y);
+              let u : flags ++ (w ∷ ws) ≡ more ++ ws = sym (append_assoc flags (w ∷ []) ws) ∙ ap (λ (q : List Bool). q ++ ws) (sym pushed) in
+              subst (λ (q : List Bool). AllTried stored b held m q ((t.so_far + cost a) + k) z) u (subst (λ (q : ℕ). AllTried stored b held m (flags ++ (w ∷ ws)) q z) s y);
           stop = λ k z x.
               let x' = subst (λ (j : ℕ). Stops stored b h' (beyond j m) k z) (sym p) x in
               let y = t.stop (cost a + k) z (subst (λ (q : Moves). Stops stored b h q (cost a + k) z) (sym e) (later w r v x')) in
@@ -122,7 +125,7 @@ module _ (stored : Storing) (b : ℕ) (held : Held) (m : Moves) (n : ℕ) where
     }
 
   pub trying_end : (i : ℕ) (flags : List Bool) (n' : ℕ) (h : Held) → length (successors m) ≤ 6144 → i ≡ length (successors m) → Trying stored b held m n i flags h n'
-      → Adds (λ k. AllTried stored b held m (take (length (successors m)) flags) k h) n n'
+      → Adds (λ k. AllTried stored b held m flags k h) n n'
   trying_end i flags n' h few l t =
       let y = t.all [] 0 h (subst (λ (q : Moves). AllTried stored b h q [] 0 h) (sym (beyond_end i m (omega arith))) no_more) in
       let s : t.so_far + 0 ≡ t.so_far = omega arith in
@@ -130,8 +133,14 @@ module _ (stored : Storing) (b : ℕ) (held : Held) (m : Moves) (n : ℕ) where
         cost = t.so_far;
         sum = t.sum;
         bound = omega (arith, t.bound);
-        holds = subst (λ (j : ℕ). AllTried stored b held m (take j flags) t.so_far h) l (subst (λ (q : List Bool). AllTried stored b held m q t.so_far h) (append-nil (take i flags)) (subst (λ (q : ℕ). AllTried stored b held m (take i flags ++ []) q h) s y));
+        holds = subst (λ (q : List Bool). AllTried stored b held m q t.so_far h) (append-nil flags) (subst (λ (q : ℕ). AllTried stored b held m (flags ++ []) q h) s y);
       }
+
+-- equal flags say the same trials
+pub same_flags : {stored : Storing} {b : ℕ} {held held' : Held} {m : Moves} {ws vs : List Bool} {n n' : ℕ} → ws ≡ vs
+    → Adds (λ k. AllTried stored b held m vs k held') n n' → Adds (λ k. AllTried stored b held m ws k held') n n'
+same_flags {stored = stored} {b = b} {held = held} {held' = held'} {m = m} {n = n} {n' = n'} e a =
+    subst (λ (fs : List Bool). Adds (λ k. AllTried stored b held m fs k held') n n') (sym e) a
 
 pub attempt_spent : {stored : Storing} {b : ℕ} {held held' : Held} {m : Moves} (ws : List Bool) {n n' : ℕ} (r : Result (Unit {0}) Stop) (stop : Stop) → stop ≡ Spent
     → IsErrAnd r (λ e. e ≡ stop) → Adds (λ k. Stops stored b held m k held') n n' → Attempted stored b held m ws n r held' n'

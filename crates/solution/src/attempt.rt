@@ -49,14 +49,15 @@ impl<'g, 't, 'r, G: Game, T: Table> Solver<'g, 't, 'r, G, T> {
     pub(crate) fn try_moves(&mut self) -> Result<(), Stop>
         requires { self.old.sum ≤ most * 4096 }
         ensures stays { Stays G.current G.earlier self.old self.new }
-        ensures tried { Attempted T.Table.stored self.old.budget.amount (T.held self.old.table.now) (moves (G.current self.old.game.now)) (take (length (next (G.current self.old.game.now))) self.new.flags) self.old.sum result (T.held self.new.table.now) self.new.sum }
+        ensures tried { Attempted T.Table.stored self.old.budget.amount (T.held self.old.table.now) (moves (G.current self.old.game.now)) self.new.flags.items self.old.sum result (T.held self.new.table.now) self.new.sum }
     {
-        // the loop counts moves: it plays number i
+        self.flags.clear();
+        // a game's moves are numbers, in the trait and in the calls: the number is what is played
         for i in 0..self.game.count() {
             let answer = try_move(self.game, self.table, self.budget, self.records, i);
             self.sum += u64::from(answer.expansions) + u64::from(answer.entries);
             let won = value(answer.verdict)?;
-            self.flags[i] = won;
+            self.flags.push(won);
         }
         Ok(())
     }

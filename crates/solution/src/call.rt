@@ -4,8 +4,9 @@ ghost use Rattle.solution.specs.Calls.{declined, Solved, Answered, Right};
 use crate::answer::Solution;
 use crate::page::Page;
 use crate::solver::Solver;
+use arrayvec::ArrayVec;
 use game::{Decline, Game, State};
-use search::{Budget, RECORDS, Records};
+use search::{Budget, Records};
 use table::{Pair, Table};
 
 /// The length in bytes of the largest buffer.
@@ -54,7 +55,7 @@ fn write_solution<G: Game, T: Table>(
         table,
         budget,
         records,
-        flags: [false; RECORDS],
+        flags: ArrayVec::new(),
         sum: 0,
     };
     solver.finish(&mut page, intended)

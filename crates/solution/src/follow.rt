@@ -29,7 +29,7 @@ impl<'g, 't, 'r, G: Game, T: Table> Solver<'g, 't, 'r, G, T> {
         ensures attacks { Attacks T.Table.stored self.old.budget.amount ply intended (G.current self.old.game.now) (T.held self.old.table.now) page.old self.old.sum result (T.held self.new.table.now) page.new self.new.sum }
     {
         self.try_moves()?;
-        let won = &self.flags[..self.game.count()];
+        let won = self.flags.as_slice();
         let Some(chosen) = best_move(intended, won) else {
             return Ok(None);
         };

@@ -1,6 +1,7 @@
+use arrayvec::ArrayVec;
 use search::{Budget, RECORDS, Records};
 
-/// What a solution is made with: the game and the table, each trial's budget and records, for each move of a position whether it wins,
+/// What a solution is made with: the game and the table, each trial's budget and records, of each move that was tried last whether it wins,
 /// and the sum of all expansions and entries so far.
 #[derive(Drop)]
 pub(crate) struct Solver<'g, 't, 'r, G, T> {
@@ -8,6 +9,6 @@ pub(crate) struct Solver<'g, 't, 'r, G, T> {
     pub table: &'t mut T,
     pub budget: Budget,
     pub records: &'r mut Records,
-    pub flags: [bool; RECORDS],
+    pub flags: ArrayVec<bool, RECORDS>,
     pub sum: u64,
 }

@@ -1,10 +1,10 @@
-use Rattle.std.proofs.Common.{◌≡◌, ℕ, Bool, List, length, take, Ok, Err, sym, ap, ◌∙◌, subst, arith}
+use Rattle.std.proofs.Common.{◌≡◌, ℕ, Bool, List, length, Ok, Err, sym, ap, ◌∙◌, subst, arith}
 use Rattle.game.specs.Tree.{Tree, moves, next, words}
-use Rattle.solution_laws.specs.Solution.{AllTried, wins}
+use Rattle.solution_laws.specs.Solution.{wins}
 use Rattle.solution_laws.proofs.Texts.{length-texts}
 use Rattle.solution_laws.proofs.Spent.{tried-length}
-use Rattle.solution.specs.Attempts.{Adds}
 use Rattle.solution.specs.Pages.{Writes}
+use Rattle.solution.proofs.Attempts.{same_flags}
 use Rattle.solution.proofs.Following.{chosen_number, spent_attacks, no_win_attacks, cut_attacks}
 use Rattle.solution.proofs.solver.Solver.attack.Goals as goal
 
@@ -18,10 +18,9 @@ pub returns-in_default-clause-attacks : goal.returns-in_default-clause-attacks
 returns-in_default-clause-attacks g c =
     let s = c.args.self.now in let s' = c.try_moves.new.self in
     let t : Tree = g.G.Game.current s.game.now in
-    let m : length (next t) ≡ c.count.result = sym (c.count.ensures ∙ ap (λ (x : Tree). length (next x)) c.try_moves.ensures.stays.at) in
-    let a = subst (λ (x : ℕ). Adds (λ k. AllTried g.T.Table.stored s.budget.amount (g.T.Table.held s.table.now) (moves t) (take x s'.flags) k (g.T.Table.held s'.table.now)) s.sum s'.sum) m c.in_ok-try_moves.ensures.tried in
+    let a = same_flags c.as_slice-won.ensures.value c.in_ok-try_moves.ensures.tried in
     no_win_attacks g.T.Table.stored s.budget.amount c.args.ply c.args.intended t (g.T.Table.held s.table.now) c.args.page.now s.sum (g.T.Table.held s'.table.now) s'.sum c.requires.attacker
-    (take c.count.result s'.flags) a (sym c.best_move.ensures ∙ c.in_default.is)
+    c.as_slice-won.result.now a (sym c.best_move.ensures ∙ c.in_default.is)
 
 pub write_wins-requires-clause-number : goal.write_wins-requires-clause-number
 write_wins-requires-clause-number g c =
@@ -29,25 +28,24 @@ write_wins-requires-clause-number g c =
     let t : Tree = g.G.Game.current s.game.now in
     let n : length (next (g.G.Game.current s'.game.now)) ≡ length (next t) = ap (λ (x : Tree). length (next x)) c.try_moves.ensures.stays.at in
     let o = sym c.best_move.ensures ∙ c.in-Some.is in
-    let a = subst (λ (x : ℕ). Adds (λ k. AllTried g.T.Table.stored s.budget.amount (g.T.Table.held s.table.now) (moves t) (take x s'.flags) k (g.T.Table.held s'.table.now)) s.sum s'.sum) (sym (c.count.ensures ∙ n)) c.in_ok-try_moves.ensures.tried in
-    omega (arith, chosen_number t c.args.intended c.in-Some.chosen (take c.count.result s'.flags) a.holds o, length-texts (moves (g.G.Game.current s'.game.now)), n)
+    let a = same_flags c.as_slice-won.ensures.value c.in_ok-try_moves.ensures.tried in
+    omega (arith, chosen_number t c.args.intended c.in-Some.chosen c.as_slice-won.result.now a.holds o, length-texts (moves (g.G.Game.current s'.game.now)), n)
 
 pub write_wins-requires-clause-flags : goal.write_wins-requires-clause-flags
 write_wins-requires-clause-flags g c =
     let s = c.args.self.now in let s' = c.try_moves.new.self in
     let t : Tree = g.G.Game.current s.game.now in
     let n : length (next (g.G.Game.current s'.game.now)) ≡ length (next t) = ap (λ (x : Tree). length (next x)) c.try_moves.ensures.stays.at in
-    let a = subst (λ (x : ℕ). Adds (λ k. AllTried g.T.Table.stored s.budget.amount (g.T.Table.held s.table.now) (moves t) (take x s'.flags) k (g.T.Table.held s'.table.now)) s.sum s'.sum) (sym (c.count.ensures ∙ n)) c.in_ok-try_moves.ensures.tried in
+    let a = same_flags c.as_slice-won.ensures.value c.in_ok-try_moves.ensures.tried in
     omega (arith, tried-length a.holds, length-texts (moves (g.G.Game.current s'.game.now)), n)
 
 pub returns-in_err-write_wins-clause-attacks : goal.returns-in_err-write_wins-clause-attacks
 returns-in_err-write_wins-clause-attacks g c =
     let s = c.args.self.now in let s' = c.try_moves.new.self in
     let t : Tree = g.G.Game.current s.game.now in
-    let ws : List Bool = take c.count.result s'.flags in
+    let ws : List Bool = c.as_slice-won.result.now in
     let k = c.args.ply in let j = c.in-Some.chosen in let e = c.in_err-write_wins.field-0.0 in
-    let m : length (next t) ≡ c.count.result = sym (c.count.ensures ∙ ap (λ (x : Tree). length (next x)) c.try_moves.ensures.stays.at) in
-    let a = subst (λ (x : ℕ). Adds (λ k. AllTried g.T.Table.stored s.budget.amount (g.T.Table.held s.table.now) (moves t) (take x s'.flags) k (g.T.Table.held s'.table.now)) s.sum s'.sum) m c.in_ok-try_moves.ensures.tried in
+    let a = same_flags c.as_slice-won.ensures.value c.in_ok-try_moves.ensures.tried in
     let w = subst (λ (x : Tree). Writes (wins k j ws (words x)) c.args.page.now (Err e) c.write_wins.new.self) c.try_moves.ensures.stays.at c.in_err-write_wins.ensures in
     cut_attacks g.T.Table.stored s.budget.amount k c.args.intended t (g.T.Table.held s.table.now) c.args.page.now s.sum (g.T.Table.held s'.table.now) s'.sum c.requires.attacker
     c.from_residual-in_err-write_wins.result e j ws c.write_wins.new.self c.from_residual-in_err-write_wins.ensures.1 a (sym c.best_move.ensures ∙ c.in-Some.is) w
@@ -56,10 +54,9 @@ pub returns-clause-attacks : goal.returns-clause-attacks
 returns-clause-attacks g c =
     let s = c.args.self.now in let s' = c.try_moves.new.self in
     let t : Tree = g.G.Game.current s.game.now in
-    let ws : List Bool = take c.count.result s'.flags in
+    let ws : List Bool = c.as_slice-won.result.now in
     let k = c.args.ply in let j = c.in-Some.chosen in
-    let m : length (next t) ≡ c.count.result = sym (c.count.ensures ∙ ap (λ (x : Tree). length (next x)) c.try_moves.ensures.stays.at) in
-    let a = subst (λ (x : ℕ). Adds (λ k. AllTried g.T.Table.stored s.budget.amount (g.T.Table.held s.table.now) (moves t) (take x s'.flags) k (g.T.Table.held s'.table.now)) s.sum s'.sum) m c.in_ok-try_moves.ensures.tried in
+    let a = same_flags c.as_slice-won.ensures.value c.in_ok-try_moves.ensures.tried in
     let w = subst (λ (x : Tree). Writes (wins k j ws (words x)) c.args.page.now (Ok tt) c.write_wins.new.self) c.try_moves.ensures.stays.at c.in_ok-write_wins.ensures in
     let o = sym c.best_move.ensures ∙ c.in-Some.is in
     record {

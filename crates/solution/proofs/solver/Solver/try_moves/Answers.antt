@@ -1,4 +1,4 @@
-use Rattle.std.proofs.Common.{◌≡◌, ◌+◌, ◌<◌, ℕ, length, get_or, set, sym, refl, ◌∙◌, subst, arith}
+use Rattle.std.proofs.Common.{◌≡◌, ◌+◌, ◌<◌, ℕ, length, get_or, sym, refl, ◌∙◌, subst, arith}
 use Rattle.game.specs.Tree.{Tree, nowhere, moves, next}
 use Rattle.search.specs.declared.budget.Budget.{Budget}
 use Rattle.search_laws.specs.Trial.{Trial}
@@ -10,7 +10,7 @@ use Rattle.solution.proofs.solver.Solver.try_moves.Goals as goal
 pub loop-i-init : goal.loop-i-init
 loop-i-init g c = record {
   stays = record { at = refl; path = refl; budget = refl; game = refl; table = refl; records = refl };
-  trying = trying_start g.T.Table.stored c.args.self.now.budget.amount (g.T.Table.held c.args.self.now.table.now) (moves (g.G.Game.current c.args.self.now.game.now)) c.args.self.now.sum c.args.self.now.flags;
+  trying = trying_start g.T.Table.stored c.args.self.now.budget.amount (g.T.Table.held c.args.self.now.table.now) (moves (g.G.Game.current c.args.self.now.game.now)) c.args.self.now.sum c.clear.new.self.items c.clear.ensures;
 }
 
 pub returns-in_err-won-clause-tried : goal.returns-in_err-won-clause-tried
@@ -31,7 +31,7 @@ returns-in_err-won-clause-tried g c =
     let w = value-spent a.verdict c.in_err-won.field-0.0 (sym c.value.ensures ∙ c.in_err-won.was) in
     let s : c.loop-i.self.sum + cost a ≡ c.loop-i.self.sum + (c.from.result + c.from-in-loop-i.result) = omega (arith, c.from.ensures, c.from-in-loop-i.ensures) in
     let f = few g.met.G.Game.lawful t (g.met.G.Game.within c.args.self.now.game.now) in
-    let z = trying_stop S b held (moves t) n i c.loop-i.self.flags c.loop-i.self.sum h h' a low c.args.self.now.budget.within v.trying r2 w.0 f in
+    let z = trying_stop S b held (moves t) n i c.loop-i.self.flags.items c.loop-i.self.sum h h' a low c.args.self.now.budget.within v.trying r2 w.0 f in
     attempt_spent _ c.from_residual.result c.in_err-won.field-0.0 w.1 c.from_residual.ensures.1 (subst (λ (x : ℕ). Adds (λ k. Stops S b held (moves t) k h') n x) s z)
 
 pub loop-i-preserved : goal.loop-i-preserved
@@ -52,8 +52,7 @@ loop-i-preserved g c =
     let w = value-won a.verdict c.in_ok-won.won (sym c.value.ensures ∙ c.in_ok-won.was) in
     let s : c.loop-i.self.sum + cost a ≡ c.loop-i.self.sum + (c.from.result + c.from-in-loop-i.result) = omega (arith, c.from.ensures, c.from-in-loop-i.ensures) in
     let f = few g.met.G.Game.lawful t (g.met.G.Game.within c.args.self.now.game.now) in
-    let fl : length c.loop-i.self.flags ≡ 6144 = omega arith in
-    let z = trying_next S b held (moves t) n i c.loop-i.self.flags c.loop-i.self.sum h h' a low c.args.self.now.budget.within v.trying r2 c.in_ok-won.won (omega arith) w in
+    let z = trying_next S b held (moves t) n i c.loop-i.self.flags.items c.loop-i.self.sum h h' a low c.args.self.now.budget.within v.trying r2 c.in_ok-won.won c.push.new.self.items c.push.ensures.items w in
     record {
       stays = record {
         at = c.try_move-answer.ensures.at ∙ v.stays.at;
@@ -63,7 +62,7 @@ loop-i-preserved g c =
         table = v.stays.table;
         records = v.stays.records;
       };
-      trying = subst (λ (x : ℕ). Trying S b held (moves t) n (i + 1) (set c.loop-i.self.flags i c.in_ok-won.won) h' x) s z;
+      trying = subst (λ (x : ℕ). Trying S b held (moves t) n (i + 1) c.push.new.self.items h' x) s z;
     }
 
 pub returns-clause-tried : goal.returns-clause-tried
@@ -71,4 +70,4 @@ returns-clause-tried g c =
     let t : Tree = g.G.Game.current c.args.self.now.game.now in
     let f = few g.met.G.Game.lawful t (g.met.G.Game.within c.args.self.now.game.now) in
     let l : c.loop-i.i ≡ length (next t) = omega (arith, c.count-i-end.ensures, c.loop-i-test.false, c.loop-i.auto.i-end) in
-    trying_end g.T.Table.stored c.args.self.now.budget.amount (g.T.Table.held c.args.self.now.table.now) (moves t) c.args.self.now.sum c.loop-i.i c.loop-i.self.flags c.loop-i.self.sum (g.T.Table.held c.loop-i.self.table.now) f l c.loop-i.invariant.trying
+    trying_end g.T.Table.stored c.args.self.now.budget.amount (g.T.Table.held c.args.self.now.table.now) (moves t) c.args.self.now.sum c.loop-i.i c.loop-i.self.flags.items c.loop-i.self.sum (g.T.Table.held c.loop-i.self.table.now) f l c.loop-i.invariant.trying

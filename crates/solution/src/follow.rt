@@ -8,6 +8,7 @@ ghost use Rattle.solution.specs.Calls.{Solved};
 use crate::answer::Solution;
 use crate::attempt::best_move;
 use crate::page::Page;
+use crate::ply::Ply;
 use crate::solver::Solver;
 use crate::stop::{Stop, ending_of};
 use game::{Game, State};
@@ -20,13 +21,13 @@ impl<'g, 't, 'r, G: Game, T: Table> Solver<'g, 't, 'r, G, T> {
     fn attack(
         &mut self,
         page: &mut Page<'_>,
-        ply: u8,
+        ply: Ply,
         intended: Option<usize>,
     ) -> Result<Option<usize>, Stop>
-        requires ready { Ready ply (G.current self.old.game.now) page.old self.old.sum }
+        requires ready { Ready ply.number (G.current self.old.game.now) page.old self.old.sum }
         requires attacker { state (G.current self.old.game.now) ≡ Attacker }
         ensures stays { Stays G.current G.earlier self.old self.new }
-        ensures attacks { Attacks T.Table.stored self.old.budget.amount ply intended (G.current self.old.game.now) (T.held self.old.table.now) page.old self.old.sum result (T.held self.new.table.now) page.new self.new.sum }
+        ensures attacks { Attacks T.Table.stored self.old.budget.amount ply.number intended (G.current self.old.game.now) (T.held self.old.table.now) page.old self.old.sum result (T.held self.new.table.now) page.new self.new.sum }
     {
         self.try_moves()?;
         let won = self.flags.as_slice();
@@ -39,14 +40,14 @@ impl<'g, 't, 'r, G: Game, T: Table> Solver<'g, 't, 'r, G, T> {
 
     /// Writes what comes after a move: plays it, writes what comes at its successor, and takes it back.
     #[cycle(follow)]
-    fn follow_move(&mut self, page: &mut Page<'_>, ply: u8, i: usize) -> Result<(), Stop>
-        requires ready { Ready ply (G.current self.old.game.now) page.old self.old.sum }
+    fn follow_move(&mut self, page: &mut Page<'_>, ply: Ply, i: usize) -> Result<(), Stop>
+        requires ready { Ready ply.number (G.current self.old.game.now) page.old self.old.sum }
         requires number { i < length (next (G.current self.old.game.now)) }
         ensures stays { Stays G.current G.earlier self.old self.new }
-        ensures follows { Followed T.Table.stored self.old.budget.amount (ply + 1) None (slice_index_or (next (G.current self.old.game.now)) i nowhere) (T.held self.old.table.now) page.old self.old.sum result (T.held self.new.table.now) page.new self.new.sum }
+        ensures follows { Followed T.Table.stored self.old.budget.amount (ply.number + 1) None (slice_index_or (next (G.current self.old.game.now)) i nowhere) (T.held self.old.table.now) page.old self.old.sum result (T.held self.new.table.now) page.new self.new.sum }
     {
         self.game.play(i).unwrap();
-        let after = self.follow(page, ply + 1, None);
+        let after = self.follow(page, ply.next(), None);
         self.game.take_back().unwrap();
         after
     }
@@ -56,13 +57,13 @@ impl<'g, 't, 'r, G: Game, T: Table> Solver<'g, 't, 'r, G, T> {
     fn follow_best(
         &mut self,
         page: &mut Page<'_>,
-        ply: u8,
+        ply: Ply,
         intended: Option<usize>,
     ) -> Result<(), Stop>
-        requires ready { Ready ply (G.current self.old.game.now) page.old self.old.sum }
+        requires ready { Ready ply.number (G.current self.old.game.now) page.old self.old.sum }
         requires attacker { state (G.current self.old.game.now) ≡ Attacker }
         ensures stays { Stays G.current G.earlier self.old self.new }
-        ensures follows { Followed T.Table.stored self.old.budget.amount ply intended (G.current self.old.game.now) (T.held self.old.table.now) page.old self.old.sum result (T.held self.new.table.now) page.new self.new.sum }
+        ensures follows { Followed T.Table.stored self.old.budget.amount ply.number intended (G.current self.old.game.now) (T.held self.old.table.now) page.old self.old.sum result (T.held self.new.table.now) page.new self.new.sum }
     {
         match self.attack(page, ply, intended)? {
             Some(chosen) => self.follow_move(page, ply, chosen),
@@ -72,11 +73,11 @@ impl<'g, 't, 'r, G: Game, T: Table> Solver<'g, 't, 'r, G, T> {
 
     /// Writes what comes at a defender's position: for each move a line, and then what comes after it.
     #[cycle(follow)]
-    fn follow_replies(&mut self, page: &mut Page<'_>, ply: u8) -> Result<(), Stop>
-        requires ready { Ready ply (G.current self.old.game.now) page.old self.old.sum }
+    fn follow_replies(&mut self, page: &mut Page<'_>, ply: Ply) -> Result<(), Stop>
+        requires ready { Ready ply.number (G.current self.old.game.now) page.old self.old.sum }
         requires defender { state (G.current self.old.game.now) ≡ Defender }
         ensures stays { Stays G.current G.earlier self.old self.new }
-        ensures follows { (i : Option ℕ) → Followed T.Table.stored self.old.budget.amount ply i (G.current self.old.game.now) (T.held self.old.table.now) page.old self.old.sum result (T.held self.new.table.now) page.new self.new.sum }
+        ensures follows { (i : Option ℕ) → Followed T.Table.stored self.old.budget.amount ply.number i (G.current self.old.game.now) (T.held self.old.table.now) page.old self.old.sum result (T.held self.new.table.now) page.new self.new.sum }
     {
         // the loop counts moves: it plays number i
         for i in 0..self.game.count() {
@@ -91,12 +92,12 @@ impl<'g, 't, 'r, G: Game, T: Table> Solver<'g, 't, 'r, G, T> {
     pub(crate) fn follow(
         &mut self,
         page: &mut Page<'_>,
-        ply: u8,
+        ply: Ply,
         intended: Option<usize>,
     ) -> Result<(), Stop>
-        requires { Ready ply (G.current self.old.game.now) page.old self.old.sum }
+        requires { Ready ply.number (G.current self.old.game.now) page.old self.old.sum }
         ensures stays { Stays G.current G.earlier self.old self.new }
-        ensures follows { Followed T.Table.stored self.old.budget.amount ply intended (G.current self.old.game.now) (T.held self.old.table.now) page.old self.old.sum result (T.held self.new.table.now) page.new self.new.sum }
+        ensures follows { Followed T.Table.stored self.old.budget.amount ply.number intended (G.current self.old.game.now) (T.held self.old.table.now) page.old self.old.sum result (T.held self.new.table.now) page.new self.new.sum }
     {
         match self.game.state() {
             State::Won | State::NotWon => Ok(()),
@@ -113,7 +114,7 @@ impl<'g, 't, 'r, G: Game, T: Table> Solver<'g, 't, 'r, G, T> {
         ensures buffer { page.new.buffer.ghost_name ≡ page.old.buffer.ghost_name }
         ensures solved { Solved T.Table.stored (T.held self.old.table.now) (G.current self.old.game.now) intended self.old.budget.amount page.old.buffer.now result (T.held self.new.table.now) page.new.buffer.now }
     {
-        let end = self.follow(page, 1, Some(intended));
+        let end = self.follow(page, Ply::FIRST, Some(intended));
         Solution {
             ending: ending_of(end),
             lines: page.lines,

@@ -5,6 +5,7 @@ mod attempt;
 mod call;
 mod follow;
 mod page;
+mod ply;
 mod solver;
 mod stop;
 mod write;

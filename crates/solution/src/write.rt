@@ -5,6 +5,7 @@ ghost use Rattle.solution_laws.specs.Solution.{wins};
 ghost use Rattle.solution.specs.Pages.{Writes};
 
 use crate::page::{Full, Page};
+use crate::ply::Ply;
 use game::Game;
 use solution_laws::Sign;
 
@@ -20,14 +21,13 @@ fn sign_byte(sign: Sign) -> u8
 }
 
 /// The eight bytes of a line.
-fn line_bytes(ply: u8, sign: Sign, text: &[u8; 5]) -> [u8; 8]
-    requires { ply < 100 }
-    ensures { result ≡ bytes (record { ply = ply; sign = sign; text = text.now }) }
+fn line_bytes(ply: Ply, sign: Sign, text: &[u8; 5]) -> [u8; 8]
+    ensures { result ≡ bytes (record { ply = ply.number; sign = sign; text = text.now }) }
 {
     let [a, b, c, d, e] = *text;
     [
-        b'0' + ply / 10,
-        b'0' + ply % 10,
+        b'0' + ply.number / 10,
+        b'0' + ply.number % 10,
         sign_byte(sign),
         a,
         b,
@@ -46,25 +46,23 @@ fn put_line(buffer: &mut [u8], n: usize, line: &[u8; 8])
 }
 
 /// Whether a line is a key's: the attacker's, of ply 1.
-fn is_key_line(ply: u8, sign: Sign) -> bool
-    ensures { result ≡ is_key (record { ply = ply; sign = sign; text = [] }) }
+fn is_key_line(ply: Ply, sign: Sign) -> bool
+    ensures { result ≡ is_key (record { ply = ply.number; sign = sign; text = [] }) }
 {
-    ply == 1 && sign != Sign::Reply
+    ply == Ply::FIRST && sign != Sign::Reply
 }
 
 /// Whether a line is a dual's: of another winning move than the chosen one, of a later ply.
-fn is_dual_line(ply: u8, sign: Sign) -> bool
-    ensures { result ≡ is_dual (record { ply = ply; sign = sign; text = [] }) }
+fn is_dual_line(ply: Ply, sign: Sign) -> bool
+    ensures { result ≡ is_dual (record { ply = ply.number; sign = sign; text = [] }) }
 {
-    ply != 1 && sign == Sign::Other
+    ply != Ply::FIRST && sign == Sign::Other
 }
 
-// That a ply has two digits is asked four times: a type for it would be made and taken apart in each function, no plainer.
 impl<'a> Page<'a> {
     /// Writes a line after those written, if it fits.
-    fn write(&mut self, ply: u8, sign: Sign, text: &[u8; 5]) -> Result<(), Full>
-        requires { ply < 100 }
-        ensures { Writes (record { ply = ply; sign = sign; text = text.now } ∷ []) self.old result self.new }
+    fn write(&mut self, ply: Ply, sign: Sign, text: &[u8; 5]) -> Result<(), Full>
+        ensures { Writes (record { ply = ply.number; sign = sign; text = text.now } ∷ []) self.old result self.new }
     {
         if self.lines >= self.buffer.len() / 8 {
             return Err(Full);
@@ -80,13 +78,12 @@ impl<'a> Page<'a> {
     pub(crate) fn write_move<G: Game>(
         &mut self,
         game: &G,
-        ply: u8,
+        ply: Ply,
         sign: Sign,
         i: usize,
     ) -> Result<(), Full>
-        requires ply { ply < 100 }
-        requires number { i < length (words (G.current game.now)) }
-        ensures { Writes (record { ply = ply; sign = sign; text = slice_index_or (words (G.current game.now)) i [] } ∷ []) self.old result self.new }
+        requires { i < length (words (G.current game.now)) }
+        ensures { Writes (record { ply = ply.number; sign = sign; text = slice_index_or (words (G.current game.now)) i [] } ∷ []) self.old result self.new }
     {
         let text = game.text(i).unwrap();
         self.write(ply, sign, &text)
@@ -96,14 +93,13 @@ impl<'a> Page<'a> {
     pub(crate) fn write_wins<G: Game>(
         &mut self,
         game: &G,
-        ply: u8,
+        ply: Ply,
         chosen: usize,
         flags: &[bool],
     ) -> Result<(), Full>
-        requires ply { ply < 100 }
         requires number { chosen < length (words (G.current game.now)) }
         requires flags { length flags.now ≡ length (words (G.current game.now)) }
-        ensures { Writes (wins ply chosen flags.now (words (G.current game.now))) self.old result self.new }
+        ensures { Writes (wins ply.number chosen flags.now (words (G.current game.now))) self.old result self.new }
     {
         self.write_move(game, ply, Sign::Chosen, chosen)?;
         for (i, won) in flags.iter().enumerate() {

@@ -4,7 +4,7 @@ use Rattle.solution.proofs.Pages.{no_room}
 use Rattle.solution.proofs.page.Page.write.Goals as goal
 
 pub returns-then-self : goal.returns-then-self
-returns-then-self c = no_room (record { ply = c.args.ply; sign = c.args.sign; text = c.args.text.now }) c.args.self.now (omega arith)
+returns-then-self c = no_room (record { ply = c.args.ply.number; sign = c.args.sign; text = c.args.text.now }) c.args.self.now (omega arith)
 
 one_more : (n : ℕ) (b w : Bool) → b ≡ w → n + bool_byte b ≡ n + (cond w 1 0 + 0)
 one_more n true true e = omega arith

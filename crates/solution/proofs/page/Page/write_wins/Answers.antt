@@ -11,7 +11,7 @@ use Rattle.solution.proofs.page.Page.write_wins.Goals.{then-won+then-i-chosen+in
 pub returns-in_err-write_move-2 : goal.returns-in_err-write_move-2
 returns-in_err-write_move-2 g c =
     let xs = words (g.G.Game.current c.args.game.now) in
-    let k = c.args.ply in let j = c.args.chosen in let ws = c.args.flags.now in
+    let k = c.args.ply.number in let j = c.args.chosen in let ws = c.args.flags.now in
     let e = c.in_err-write_move-2.field-0.0 in
     let w = subst (λ (x : List Line). Writes x c.loop-i.self (Err e) c.write_move-then-i-chosen.new.self) (sym (other_some k j ws xs c.loop-i.i c.if-won.true c.if-i-chosen.true)) c.in_err-write_move-2.ensures in
     writes-err {e = e} (wins k j ws xs) c.from_residual-in_err-write_move-2.result c.from_residual-in_err-write_move-2.ensures.0
@@ -21,7 +21,7 @@ returns-in_err-write_move-2 g c =
 pub loop-i-preserved : goal.loop-i-preserved
 loop-i-preserved g c =
     let xs = words (g.G.Game.current c.args.game.now) in
-    let k = c.args.ply in let j = c.args.chosen in let ws = c.args.flags.now in let i = c.loop-i.i in
+    let k = c.args.ply.number in let j = c.args.chosen in let ws = c.args.flags.now in let i = c.loop-i.i in
     let m : i < length ws = omega arith in
     let n : i < length xs = omega arith in
     elim c.if-won.branch [
@@ -37,6 +37,6 @@ loop-i-preserved g c =
 pub returns : goal.returns
 returns g c =
     let xs = words (g.G.Game.current c.args.game.now) in
-    let k = c.args.ply in let j = c.args.chosen in let ws = c.args.flags.now in
+    let k = c.args.ply.number in let j = c.args.chosen in let ws = c.args.flags.now in
     writes-on (chosen_line k (get_or xs j []) ∷ []) (others_from k j 0 ws xs) c.in_ok-write_move.ensures
     (adding_end k j ws xs c.loop-i.i (omega arith) c.loop-i.invariant)

@@ -1,3 +1,4 @@
+pub mod Solvers
 pub mod Pages
 pub mod Attempts
 pub mod Following

@@ -9,7 +9,7 @@ ghost use Rattle.solution.specs.Attempts.{most, value_of, Attempted};
 use crate::solver::Solver;
 use crate::stop::Stop;
 use game::Game;
-use search::{Budget, Records, try_position};
+use search::try_position;
 use search_laws::{Answer, Verdict};
 use table::Table;
 
@@ -24,26 +24,21 @@ fn value(verdict: Verdict) -> Result<bool, Stop>
     }
 }
 
-/// A trial on the successor of number i.
-fn try_move<G: Game, T: Table>(
-    game: &mut G,
-    table: &mut T,
-    budget: Budget,
-    records: &mut Records,
-    i: usize,
-) -> Answer
-    requires { i < length (next (G.current game.old)) }
-    ensures at { G.current game.new ≡ G.current game.old }
-    ensures path { G.earlier game.new ≡ G.earlier game.old }
-    ensures tried { Trial T.Table.stored (T.held table.old) (slice_index_or (next (G.current game.old)) i nowhere) budget.amount result (T.held table.new) }
-{
-    game.play(i).unwrap();
-    let answer = try_position(game, table, budget, records);
-    game.take_back().unwrap();
-    answer
-}
-
 impl<'g, 't, 'r, G: Game, T: Table> Solver<'g, 't, 'r, G, T> {
+    /// A trial on the successor of number i.
+    fn try_move(&mut self, i: usize) -> Answer
+        requires { i < length (next (G.current self.old.game.now)) }
+        ensures stays { Stays G.current G.earlier self.old self.new }
+        ensures flags { self.new.flags ≡ self.old.flags }
+        ensures sum { self.new.sum ≡ self.old.sum }
+        ensures tried { Trial T.Table.stored (T.held self.old.table.now) (slice_index_or (next (G.current self.old.game.now)) i nowhere) self.old.budget.amount result (T.held self.new.table.now) }
+    {
+        self.game.play(i).unwrap();
+        let answer = try_position(self.game, self.table, self.budget, self.records);
+        self.game.take_back().unwrap();
+        answer
+    }
+
     /// Tries all moves, each on its successor with the full budget, in order, up to the first that is spent; a flag says of each whether it
     /// wins.
     pub(crate) fn try_moves(&mut self) -> Result<(), Stop>
@@ -54,7 +49,7 @@ impl<'g, 't, 'r, G: Game, T: Table> Solver<'g, 't, 'r, G, T> {
         self.flags.clear();
         // a game's moves are numbers, in the trait and in the calls: the number is what is played
         for i in 0..self.game.count() {
-            let answer = try_move(self.game, self.table, self.budget, self.records, i);
+            let answer = self.try_move(i);
             self.sum += u64::from(answer.expansions) + u64::from(answer.entries);
             let won = value(answer.verdict)?;
             self.flags.push(won);

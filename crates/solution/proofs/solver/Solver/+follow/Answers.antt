@@ -6,6 +6,7 @@ use Rattle.solution_laws.proofs.Texts.{length-texts}
 use Rattle.solution.specs.Pages.{Writes}
 use Rattle.solution.specs.Following.{Followed, Attacks}
 use Rattle.solution.proofs.Following.{no_line_followed, win_followed, replying_start, replying_cut, replying-last, replying-next, replying_end}
+use Rattle.solution.proofs.Solvers.{stays-join}
 use Rattle.solution.proofs.solver.Solver.+follow.Goals as goal
 
 -- a position
@@ -93,9 +94,8 @@ follow_replies-loop-i-preserved g t c =
     let w = subst (λ (x : Tree). Writes (reply_line k (get_or (words x) i []) ∷ []) c.loop-i.page (Ok tt) p2) v.stays.at c.in_ok-write_move.ensures in
     let f1 = subst (λ (x : Budget). Followed S x.amount (k + 1) None (get_or (next (g.G.Game.current s1.game.now)) i nowhere) h1 p2 s1.sum (Ok tt) h3 c.follow_move.new.page s3.sum) v.stays.budget c.in_ok-follow_move.ensures.follows in
     let f2 = subst (λ (x : Tree). Followed S b (k + 1) None (get_or (next x) i nowhere) h1 p2 s1.sum (Ok tt) h3 c.follow_move.new.page s3.sum) v.stays.at f1 in
-    let y = c.follow_move.ensures.stays in
     record {
-      stays = record { at = y.at ∙ v.stays.at; path = y.path ∙ v.stays.path; budget = y.budget ∙ v.stays.budget; game = y.game ∙ v.stays.game; table = y.table ∙ v.stays.table; records = y.records ∙ v.stays.records };
+      stays = stays-join v.stays c.follow_move.ensures.stays;
       replying = replying-next S b k u (g.T.Table.held s.table.now) c.args.page.now s.sum i h1 c.loop-i.page s1.sum v.replying low p2 w (Ok tt) h3 c.follow_move.new.page s3.sum f2 refl;
     }
 

@@ -15,7 +15,8 @@ use game::{Game, State};
 use solution_laws::Sign;
 use table::Table;
 
-// `Ready` relates the ply to the position and to the sum, which change with each move, so the functions ask it and no type keeps it.
+// `Ready` bounds the ply by the plies that the position has left, and the sum by the lines on the page. No one value has these, so the
+// functions ask it and no type keeps it. The page goes beside the solver: of a loan in a struct within a struct nothing is known later.
 impl<'g, 't, 'r, G: Game, T: Table> Solver<'g, 't, 'r, G, T> {
     /// Tries all moves of an attacker's position, and writes its lines: which move is followed, if one wins.
     fn attack(

@@ -1,5 +1,5 @@
 -- Trials of all moves, one after another.
-use Rattle.std.proofs.Common.{◌≡◌, ℕ, zero, suc, ◌+◌, ◌*◌, ◌<◌, ◌≤◌, Bool, true, false, List, [], ◌∷◌, ◌++◌, length, get_or, take, set, Ok, Err, Some, None, Option, sym, refl, ap, ◌∙◌, subst, append_assoc, append-nil, suc-mul, Result, arith}
+use Rattle.std.proofs.Common.{◌≡◌, ℕ, zero, suc, ◌+◌, ◌*◌, ◌<◌, ◌≤◌, Bool, true, false, List, [], ◌∷◌, ◌++◌, length, get_or, Ok, Err, Some, None, Option, sym, refl, ap, ◌∙◌, subst, append_assoc, append-nil, suc-mul, Result, arith}
 use Rattle.std.proofs.lemmas.List.{length_push}
 use Rattle.std.proofs.ByRecursion.{All-get_or}
 use Rattle.game.specs.Rules.{Rules}

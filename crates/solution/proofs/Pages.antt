@@ -69,11 +69,6 @@ pub writes-err : {p p' : Page} {e : Full} (ls : List Line) (r : Result (Unit {0}
 writes-err ls (Ok u) h w = clash (cc)
 writes-err ls (Err d) h w = w
 
-pub no_room : {e : Full} (l : Line) (p : Page) → length p.buffer.now / 8 ≤ p.lines → Writes (l ∷ []) p (Err e) p
-no_room l p h =
-    let e : 0 ≡ room p = omega arith in
-    (omega arith, subst (λ (n : ℕ). Written (take n (l ∷ [])) p p) e (written_none p))
-
 -- the lines with `+`, one move further
 module _ (k j : ℕ) (ws : List Bool) (xs : List (List ℕ)) where
   pub others_after : ℕ → List Line
@@ -99,9 +94,6 @@ module _ (k j : ℕ) (ws : List Bool) (xs : List (List ℕ)) where
     pub so_far : List Line
     pub rest : others_after 0 ≡ so_far ++ others_after i
     pub writes : Writes so_far p (Ok tt) p'
-
-  pub adding_start : (p : Page) → Adding 0 p p
-  adding_start p = record { so_far = []; rest = refl; writes = (omega arith, written_none p) }
 
   pub adding_next : {p p' p'' : Page} (i : ℕ) → i < length ws → i < length xs
       → Adding i p p' → Writes (other_at k j i ws xs) p' (Ok tt) p'' → Adding (i + 1) p p''

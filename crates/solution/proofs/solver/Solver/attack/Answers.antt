@@ -1,4 +1,4 @@
-use Rattle.std.proofs.Common.{◌≡◌, ℕ, Bool, List, length, Ok, Err, sym, ap, ◌∙◌, subst, arith}
+use Rattle.std.proofs.Common.{◌≡◌, Bool, List, length, Ok, Err, sym, ap, ◌∙◌, subst, arith}
 use Rattle.game.specs.Tree.{Tree, moves, next, words}
 use Rattle.solution_laws.specs.Solution.{wins}
 use Rattle.solution_laws.proofs.Texts.{length-texts}

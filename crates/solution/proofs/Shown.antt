@@ -11,6 +11,7 @@ use Rattle.game.specs.declared.state.State.TheVariants as states
 use Rattle.game.specs.Tree.{Tree, state, next}
 use Rattle.table.specs.declared.pair.Pair.{Pair}
 use Rattle.table.specs.Pairs.{Held}
+use Rattle.search.specs.declared.budget.Budget as budgets
 use Rattle.search_laws.specs.Run.{Storing}
 use Rattle.solution_laws.specs.Lines.{Line, bytes, all_bytes, lines_in, written_over, keys, duals, Fits}
 use Rattle.solution_laws.specs.Solution.{Solves}
@@ -64,8 +65,10 @@ shown positions stored b i t held page r held' page' n n' e fit pt zl zk zd zn e
     }
 
 -- what is checked of a position, the intended move and the buffer, where the budget and the records are taken
-pub accepted : (t : Tree) (i b n l : ℕ) → b ≤ 99999999 → 6144 ≤ n → declined t i b n l ≡ declined t i 0 6144 l
-accepted t i b n l e m = ap₂ (λ (x y : Bool). cond x (Some Budget) (cond y (Some Records) (declined t i 0 6144 l))) (le-ltb 99999999 b e) (le-ltb n 6144 m)
+pub accepted : (t : Tree) (i n l : ℕ) (budget : budgets.Budget) {b : ℕ} → budget.amount ≡ b → 6144 ≤ n → declined t i b n l ≡ declined t i 0 6144 l
+accepted t i n l budget {b = b} e m =
+    let within = subst (λ (x : ℕ). x ≤ 99999999) e budget.within in
+    ap₂ (λ (x y : Bool). cond x (Some Budget) (cond y (Some Records) (declined t i 0 6144 l))) (le-ltb 99999999 b within) (le-ltb n 6144 m)
 
 -- the buffer is then none that is too long
 pub short : (t : Tree) (i l : ℕ) → declined t i 0 6144 l ≡ None → l ≤ 32768
@@ -75,6 +78,12 @@ short t i l e = ltb-false 32768 l (go (not (eqb (l % 8) 0)) (ltb 32768 l) (is_at
     go false false m k e = refl
     go false true m k e = cc
     go true x m k e = cc
+
+-- a solution with a budget of this amount
+pub budgeted : {stored : Storing} {held held' : Held} {t : Tree} {i b b' : ℕ} {buffer buffer' : List ℕ} {a : Solution} → b ≡ b'
+    → Solved stored held t i b buffer a held' buffer' → Solved stored held t i b' buffer a held' buffer'
+budgeted {stored = stored} {held = held} {held' = held'} {t = t} {i = i} {buffer = buffer} {buffer' = buffer'} {a = a} e s =
+    subst (λ (b : ℕ). Solved stored held t i b buffer a held' buffer') e s
 
 pub refused : (positions : Tree → Type 0) (stored : Storing) (held : Held) (t : Tree) (i b : ℕ) (rs rs' : List Pair) (buffer : List ℕ) (r : Result Solution Decline) (d : Decline)
     → IsErrAnd r (λ x. x ≡ d) → declined t i b (length rs) (length buffer) ≡ Some d → rs' ≡ rs

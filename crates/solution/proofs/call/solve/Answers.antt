@@ -8,16 +8,14 @@ use Rattle.search_laws.proofs.Trials.{trials_are_right_lem}
 use Rattle.solution_laws.proofs.Fitting.{solutions_fit}
 use Rattle.solution_laws.proofs.Right.{solutions_are_right_lem}
 use Rattle.solution_laws.proofs.Spent.{spent-is-meant}
-use Rattle.solution.specs.Calls.{Solved}
-use Rattle.solution.proofs.Shown.{accepted, short, refused, attacked, means}
+use Rattle.solution.proofs.Shown.{accepted, budgeted, short, refused, attacked, means}
 use Rattle.solution.proofs.call.solve.Goals as goal
 
 pub returns-in_err-accept-clause-answered : goal.returns-in_err-accept-clause-answered
 returns-in_err-accept-clause-answered g c =
     let t : Tree = g.G.Game.current c.args.game.now in
     let rs : List Pair = c.args.records.now in
-    let within = subst (λ (b : ℕ). b ≤ 99999999) c.in_ok-budget.ensures c.in_ok-budget.budget.within in
-    let e = accepted t c.args.intended c.args.budget (length rs) (length c.args.buffer.now) within c.in-Some.ensures.cases.enough in
+    let e = accepted t c.args.intended (length rs) (length c.args.buffer.now) c.in_ok-budget.budget c.in_ok-budget.ensures c.in-Some.ensures.cases.enough in
     let same : c.in-Some.records.now ++ drop 6144 rs ≡ rs = ap (λ (x : List Pair). x ++ drop 6144 rs) c.in-Some.ensures.cases.same ∙ take-append-drop 6144 rs in
     (refused g.G.Game.positions g.T.Table.stored (g.T.Table.held c.args.table.now) t c.args.intended c.args.budget rs _ c.args.buffer.now c.from_residual-in_err-accept.result c.in_err-accept.field-0.0
     c.from_residual-in_err-accept.ensures.1 (e ∙ c.in_err-accept.ensures) same).0
@@ -28,11 +26,9 @@ write_solution-requires g c = short (g.G.Game.current c.args.game.now) c.args.in
 pub returns-clause-answered : goal.returns-clause-answered
 returns-clause-answered g c =
     let t : Tree = g.G.Game.current c.args.game.now in
-    let within = subst (λ (b : ℕ). b ≤ 99999999) c.in_ok-budget.ensures c.in_ok-budget.budget.within in
-    let e = accepted t c.args.intended c.args.budget (length c.args.records.now) (length c.args.buffer.now) within c.in-Some.ensures.cases.enough in (
+    let e = accepted t c.args.intended (length c.args.records.now) (length c.args.buffer.now) c.in_ok-budget.budget c.in_ok-budget.ensures c.in-Some.ensures.cases.enough in (
       e ∙ c.in_ok-accept.ensures,
-      subst (λ (b : ℕ). Solved g.T.Table.stored (g.T.Table.held c.args.table.now) t c.args.intended b c.args.buffer.now c.write_solution.result (g.T.Table.held c.write_solution.new.table) c.write_solution.new.buffer)
-          c.in_ok-budget.ensures c.write_solution.ensures.solved,
+      budgeted c.in_ok-budget.ensures c.write_solution.ensures.solved,
     )
 
 pub returns-clause-right : goal.returns-clause-right
@@ -42,10 +38,8 @@ returns-clause-right g c =
     let S = g.T.Table.stored in
     let t : Tree = g.G.Game.current c.args.game.now in
     let h = g.T.Table.held c.args.table.now in
-    let s = subst (λ (b : ℕ). Solved S h t c.args.intended b c.args.buffer.now c.write_solution.result (g.T.Table.held c.write_solution.new.table) c.write_solution.new.buffer)
-    c.in_ok-budget.ensures c.write_solution.ensures.solved in
     means g.G.Game.positions S h t c.args.intended c.args.budget c.args.buffer.now c.write_solution.result (g.T.Table.held c.write_solution.new.table) c.write_solution.new.buffer
     (solutions_fit m.lawful S)
     (solutions_are_right_lem m.lawful S (trials_are_right_lem g.G.Game.positions (ranging m.lawful) S (record { own = n.own; other = n.other })))
     (spent-is-meant S (trials.spent-is-meant S)) (m.within c.args.game.now)
-    (attacked t c.args.intended 0 6144 (length c.args.buffer.now) c.in_ok-accept.ensures) s
+    (attacked t c.args.intended 0 6144 (length c.args.buffer.now) c.in_ok-accept.ensures) (budgeted c.in_ok-budget.ensures c.write_solution.ensures.solved)

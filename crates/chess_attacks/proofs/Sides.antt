@@ -6,7 +6,7 @@ use Rattle.chess_attacks.specs.declared.men.Kind.{Kind}
 use Rattle.chess_attacks.specs.declared.men.Kind.TheVariants.{King, Queen, Rook, Bishop, Knight, Pawn}
 use Rattle.chess_attacks.specs.declared.men.Side.{Side}
 use Rattle.chess_attacks.specs.declared.men.Side.TheVariants.{White, Black}
-use Rattle.chess_attacks.specs.Men.{same_side, other, kind_number, same_kind, is_king, is_pawn, king_of}
+use Rattle.chess_attacks.specs.Men.{same_side, other, same_kind, is_king, is_pawn, king_of}
 
 pub side-true : (a b : Side) → a ≡ b → same_side a b ≡ true
 side-true White White e = refl
@@ -31,25 +31,14 @@ other-twice White = refl
 other-twice Black = refl
 
 -- the test of two kinds tells that they are one
-kind_at : ℕ → Kind
-kind_at zero = King
-kind_at (suc zero) = Queen
-kind_at (suc (suc zero)) = Rook
-kind_at (suc (suc (suc zero))) = Bishop
-kind_at (suc (suc (suc (suc zero)))) = Knight
-kind_at (suc (suc (suc (suc (suc n))))) = Pawn
-
-kind_back : (k : Kind) → kind_at (kind_number k) ≡ k
-unfolding kind_at
-kind_back King = refl
-kind_back Queen = refl
-kind_back Rook = refl
-kind_back Bishop = refl
-kind_back Knight = refl
-kind_back Pawn = refl
-
 pub kind_same : (k j : Kind) → same_kind k j ≡ true → k ≡ j
-kind_same k j h = sym (kind_back k) ∙ ap kind_at (eqb-true (kind_number k) (kind_number j) h) ∙ kind_back j
+kind_same King King h = refl
+kind_same Queen Queen h = refl
+kind_same Rook Rook h = refl
+kind_same Bishop Bishop h = refl
+kind_same Knight Knight h = refl
+kind_same Pawn Pawn h = refl
+kind_same _ _ h = absurd (false≢true h)
 
 pub pawn_kind : (k : Kind) → is_pawn k ≡ true → k ≡ Pawn
 pawn_kind k = kind_same k Pawn

@@ -1,5 +1,5 @@
 -- The men of a board: what stands on a square, and whose it is.
-use Rattle.std.specs.Prelude.{ℕ, Bool, true, false, ◌&&◌, ◌==◌, List, Some, None, Option, slice_index_or}
+use Rattle.std.specs.Prelude.{ℕ, Bool, true, false, ◌&&◌, List, Some, None, Option, slice_index_or}
 use Rattle.chess_attacks.specs.declared.men.Man.{Man}
 use Rattle.chess_attacks.specs.declared.men.Kind.{Kind}
 use Rattle.chess_attacks.specs.declared.men.Kind.TheVariants.{King, Queen, Rook, Bishop, Knight, Pawn}
@@ -29,17 +29,14 @@ same_side White Black = false
 same_side Black White = false
 same_side Black Black = true
 
--- the kinds by number, to compare them
-abbrev pub kind_number : Kind → ℕ
-kind_number King = 0
-kind_number Queen = 1
-kind_number Rook = 2
-kind_number Bishop = 3
-kind_number Knight = 4
-kind_number Pawn = 5
-
 abbrev pub same_kind : Kind → Kind → Bool
-same_kind k j = kind_number k == kind_number j
+same_kind King King = true
+same_kind Queen Queen = true
+same_kind Rook Rook = true
+same_kind Bishop Bishop = true
+same_kind Knight Knight = true
+same_kind Pawn Pawn = true
+same_kind _ _ = false
 
 abbrev pub is_king : Kind → Bool
 is_king k = same_kind k King

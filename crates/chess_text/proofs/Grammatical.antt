@@ -3,7 +3,8 @@ use Rattle.std.proofs.Common.{◌≡◌, ℕ, zero, suc, ◌+◌, ◌≤◌, Boo
 use Rattle.std.proofs.lemmas.List.{append_assoc, append-nil}
 use Rattle.board.specs.declared.square.Square.{Square}
 use Rattle.form.specs.Forms.{led}
-use Rattle.chess_text.specs.Letters.{blank, slash, letter, man as the_man}
+use Rattle.chess_attacks.specs.Letters.{letter}
+use Rattle.chess_text.specs.Letters.{blank, slash, man as the_man}
 use Rattle.chess_attacks.specs.Men.{Squares as Board}
 use Rattle.chess_text.specs.Diagrams.{cells, number, row_text, below, fields, placement, Texts}
 use Rattle.chess_text.specs.Grammar.{Row, full, man, run, Rows, last, next, Fen, SameTexts}

@@ -5,7 +5,8 @@ use Rattle.std.proofs.lemmas.Bool.{cases_eq, cases_lt}
 use Rattle.std.proofs.lemmas.List.{get_or-set_same, get_or-set_other, append_assoc, ext_get_or}
 use Rattle.board.specs.declared.square.Square.{Square}
 use Rattle.form.specs.Forms.{given, led, Says, TextsOf}
-use Rattle.chess_text.specs.Letters.{blank, dash, slash, side_of, file_of, letter, side_letter}
+use Rattle.chess_attacks.specs.Letters.{letter}
+use Rattle.chess_text.specs.Letters.{blank, dash, slash, side_of, file_of, side_letter}
 use Rattle.chess_attacks.specs.Men.{Squares as Board, on}
 use Rattle.chess_text.specs.Diagrams.{cells, number, row_text, below, fields, passing_text, IsPassable, Stands, Texts}
 use Rattle.board.specs.Squares.{square_at, file, row}

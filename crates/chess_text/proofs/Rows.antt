@@ -5,7 +5,8 @@ use Rattle.std.proofs.lemmas.Bool.{eqb-true}
 use Rattle.std.proofs.lemmas.List.{length-set, get_or-set_same, get_or-set_other}
 use Rattle.board.specs.declared.square.Square.{Square}
 use Rattle.form.specs.Forms.{led}
-use Rattle.chess_text.specs.Letters.{blank, slash, man_of, run_of, letter}
+use Rattle.chess_attacks.specs.Letters.{letter}
+use Rattle.chess_text.specs.Letters.{blank, slash, man_of, run_of}
 use Rattle.chess_attacks.specs.Men.{Squares as Board, on}
 use Rattle.chess_text.specs.Diagrams.{cells, row_text, below, fields, IsPassable}
 use Rattle.chess_text.specs.Reading.{reader, here, when, row_step, square_step, form}

@@ -4,7 +4,8 @@ use Rattle.std.proofs.lemmas.Bool.Decides.{nat_tests}
 use Rattle.std.proofs.lemmas.Bool.{eqb-true}
 use Rattle.board.specs.declared.square.Square.{Square}
 use Rattle.form.specs.Forms.{given, led}
-use Rattle.chess_text.specs.Letters.{blank, dash, man_of, side_of, run_of, file_of, letter, side_letter, man, case}
+use Rattle.chess_attacks.specs.Letters.{letter}
+use Rattle.chess_text.specs.Letters.{blank, dash, man_of, side_of, run_of, file_of, side_letter, man, case}
 use Rattle.chess_attacks.specs.Men.{Squares as Board}
 use Rattle.chess_text.specs.Diagrams.{passing_text, IsPassable}
 use Rattle.board.specs.Squares.{square_at, file, row}

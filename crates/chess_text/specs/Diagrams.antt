@@ -3,7 +3,8 @@ use Rattle.std.specs.Prelude.{◌≡◌, ℕ, zero, suc, ◌+◌, ◌-◌, ◌*�
 use Rattle.board.specs.Squares.{row, name_of}
 use Rattle.board.specs.declared.square.Square.{Square}
 use Rattle.chess_attacks.specs.Men.{Squares, on}
-use Rattle.chess_text.specs.Letters.{blank, dash, slash, letter, side_letter}
+use Rattle.chess_attacks.specs.Letters.{letter}
+use Rattle.chess_text.specs.Letters.{blank, dash, slash, side_letter}
 use Rattle.chess_attacks.specs.declared.men.Man.{Man}
 use Rattle.chess_attacks.specs.declared.men.Side.{Side}
 use Rattle.chess_moves.specs.declared.diagram.Diagram.{Diagram}

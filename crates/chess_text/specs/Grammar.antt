@@ -1,7 +1,8 @@
 -- The form of a diagram's text as a grammar, with no board in sight.
 use Rattle.std.specs.Prelude.{◌≡◌, ℕ, suc, ◌+◌, ◌<◌, ◌≤◌, Bool, true, false, List, [], ◌∷◌, ◌++◌, replicate, IfSome, Option}
 use Rattle.board.specs.declared.square.Square.{Square}
-use Rattle.chess_text.specs.Letters.{blank, slash, letter}
+use Rattle.chess_attacks.specs.Letters.{letter}
+use Rattle.chess_text.specs.Letters.{blank, slash}
 use Rattle.chess_text.specs.Diagrams.{fields, IsPassable, Texts}
 use Rattle.chess_attacks.specs.declared.men.Kind.{Kind}
 use Rattle.chess_attacks.specs.declared.men.Side.{Side}

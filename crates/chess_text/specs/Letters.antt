@@ -1,5 +1,6 @@
--- The letters of men and sides.
+-- The letters of men and sides: which letter a man has, chess_attacks says.
 use Rattle.std.specs.Prelude.{ℕ, ◌-◌, cond, ◌&&◌, Some, None, Option, ◌==◌, nat_le}
+use Rattle.chess_attacks.specs.Letters.{letter}
 use Rattle.chess_attacks.specs.declared.men.Man.{Man}
 use Rattle.chess_attacks.specs.declared.men.Kind.{Kind}
 use Rattle.chess_attacks.specs.declared.men.Kind.TheVariants.{King, Queen, Rook, Bishop, Knight, Pawn}
@@ -14,28 +15,6 @@ dash = 45
 
 abbrev pub slash : ℕ
 slash = 47
-
--- K Q R B N P
-abbrev pub capital : Kind → ℕ
-capital King = 75
-capital Queen = 81
-capital Rook = 82
-capital Bishop = 66
-capital Knight = 78
-capital Pawn = 80
-
--- k q r b n p
-abbrev pub small : Kind → ℕ
-small King = 107
-small Queen = 113
-small Rook = 114
-small Bishop = 98
-small Knight = 110
-small Pawn = 112
-
-abbrev pub letter : Side → Kind → ℕ
-letter White k = capital k
-letter Black k = small k
 
 -- w b
 abbrev pub side_letter : Side → ℕ

@@ -5,7 +5,8 @@ use Rattle.std.proofs.lemmas.Bool.Decides.{nat_tests}
 use Rattle.std.proofs.lemmas.List.{length-set}
 use Rattle.board.specs.declared.square.Square.{Square}
 use Rattle.form.specs.Forms.{given, led, Live, Lively}
-use Rattle.chess_text.specs.Letters.{blank, dash, slash, man_of, side_of, run_of, file_of, letter, man}
+use Rattle.chess_attacks.specs.Letters.{letter}
+use Rattle.chess_text.specs.Letters.{blank, dash, slash, man_of, side_of, run_of, file_of, man}
 use Rattle.chess_attacks.specs.Men.{Squares as Board}
 use Rattle.board.specs.Squares.{square_at}
 use Rattle.chess_text.specs.Reading.{square, reader, here, when, square_step, row_step, step, empty, form, OnBoard, IsFit}

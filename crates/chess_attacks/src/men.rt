@@ -1,4 +1,4 @@
-ghost use Rattle.std.specs.Prelude.{◌≡◌, [], ◌∷◌, Some};
+ghost use Rattle.std.specs.Prelude.{◌≡◌, [], ◌∷◌, Some, Decides};
 ghost use Rattle.chess_attacks.specs.Men.{other, of, man_of};
 ghost use Rattle.chess_attacks.specs.Letters.{name, letter};
 
@@ -94,7 +94,8 @@ pub fn holds(man: Option<Man>, side: Side) -> bool
 
 /// Whether a man of the side and kind stands there.
 pub fn holds_man(man: Option<Man>, side: Side, kind: Kind) -> bool
-    ensures { result ≡ man_of side kind man }
+    ensures exact { result ≡ man_of side kind man }
+    ensures meaning { Decides result (man ≡ Some (record { side = side; kind = kind })) }
 {
     man == Some(Man { side, kind })
 }

@@ -1,7 +1,15 @@
 -- Counts over the squares of a board.
-use Rattle.std.proofs.Common.{◌≡◌, ℕ, zero, suc, ◌+◌, ◌<◌, ◌≤◌, Bool, cond, length, take, set, filter, None, sum_by, Option, sym, refl, ap, ◌∙◌, add-one, arith}
+use Rattle.std.proofs.Common.{◌≡◌, ℕ, zero, suc, ◌+◌, ◌<◌, ◌≤◌, Bool, cond, List, length, take, set, None, sum_by, Option, sym, refl, ap, ◌∙◌, add-one, arith}
 use Rattle.std.proofs.lemmas.List.Sums.{sum_by-set, sum_by_more, length-filter}
 use Rattle.std.proofs.lemmas.List.{take_all}
+use Rattle.std.specs.Fn.{CalledAt}
+use Rattle.std.specs.Iterator.{Drains}
+use Rattle.std.specs.Iterator.Adapters.{filter_source, filter_callee, filter_steps}
+use Rattle.std.specs.declared.iter.Filter.{Filter}
+use Rattle.std.proofs.lemmas.Iterator.{YieldsList}
+use Rattle.std.proofs.lemmas.Iterator.Consumers.{count_from_yields_List, YieldsList-from_filter}
+use denote.Ref.{Bor}
+use denote.Param.Members.{Mut}
 use Rattle.chess_attacks.specs.declared.men.Man.{Man}
 use Rattle.chess_attacks.specs.Men.{Squares, on}
 use Rattle.chess_moves.specs.Count.{tally}
@@ -21,9 +29,15 @@ module _ (p : Option Man → Bool) where
   tally_all : (b : Squares) (n : ℕ) → length b ≡ n → tally p b n ≡ sum_by unit b
   tally_all b n h = tally_sum b n (omega arith) ∙ ap (sum_by unit) (take_all n b (omega arith))
 
-  -- and the length of what passes the test
-  pub tally_filter : (b : Squares) (n : ℕ) → length b ≡ n → length (filter p b) ≡ tally p b n
-  tally_filter b n h = length-filter p b ∙ sym (tally_all b n h)
+  -- and what is counted of the items of an iterator over the list after a filter by the test
+  pub tally_counted : {S A F : Type 0} {steps : S → Option A → S → Type 0} {v : A → Option Man} (b : Squares) {s : Filter S F} (g : Mut F (Bor A × Unit {0}) Bool) {f : F} (n : ℕ)
+      → ((xs : List A) × Drains (filter_steps steps g) s xs × (n ≡ length xs))
+      → YieldsList steps v (filter_source s) b → filter_callee s ≡ f
+      → ((x : A) (r : Bool) (q : F) → CalledAt g f x r q → (q ≡ f) × (r ≡ p (v x)))
+      → length b ≡ 64 → n ≡ tally p b 64
+  tally_counted b {s} g n h y k t l =
+      count_from_yields_List s n h (YieldsList-from_filter g p y k t)
+      ∙ (length-filter p b ∙ sym (tally_all b 64 l))
 
   -- what a square held before and holds after makes up for the difference
   pub tally_set : (b : Squares) (n s : ℕ) (o : Option Man) → length b ≡ n → length (set b s o) ≡ n → s < n → tally p (set b s o) n + unit (on b s) ≡ tally p b n + unit o

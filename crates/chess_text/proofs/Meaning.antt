@@ -4,11 +4,11 @@ use Rattle.std.proofs.lemmas.Bool.Decides.{nat_tests}
 use Rattle.std.proofs.lemmas.Bool.{cases_eq, cases_lt}
 use Rattle.std.proofs.lemmas.List.{get_or-set_same, get_or-set_other, append_assoc, ext_get_or}
 use Rattle.board.specs.declared.square.Square.{Square}
-use Rattle.form.specs.Forms.{given, led, Says, TextsOf}
+use Rattle.form.specs.Forms.{given, led, Says}
 use Rattle.chess_attacks.specs.Letters.{letter}
 use Rattle.chess_text.specs.Letters.{blank, dash, slash, side_of, file_of, side_letter}
 use Rattle.chess_attacks.specs.Men.{Squares as Board, on}
-use Rattle.chess_text.specs.Diagrams.{cells, number, row_text, below, fields, passing_text, IsPassable, Stands, Texts}
+use Rattle.chess_text.specs.Diagrams.{cells, number, row_text, below, fields, passing_text, IsPassable, Stands}
 use Rattle.board.specs.Squares.{square_at, file, row}
 use Rattle.chess_text.specs.Reading.{reader, here, empty, form}
 use Rattle.chess_attacks.specs.declared.men.Man.{Man}
@@ -231,9 +231,3 @@ says t d w =
         refl,
       ),
     )
-
-pub texts-to : (t : List ℕ) → TextsOf form t → Texts t
-texts-to t w = (w.0, stands t w.0 w.1)
-
-pub texts-from : (t : List ℕ) → Texts t → TextsOf form t
-texts-from t w = (w.0, says t w.0 w.1)

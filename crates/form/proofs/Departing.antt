@@ -1,5 +1,5 @@
 -- The place where reading stops is the place where the text departs from the form.
-use Rattle.std.proofs.Common.{◌≡◌, ℕ, zero, suc, ◌+◌, ◌<◌, ◌≤◌, List, [], ◌∷◌, ◌++◌, length, get_or, take, Some, None, Ok, Err, Option, sym, refl, ap, ◌∙◌, subst, inl, inr, add-zero, zero-add, arith, MatchResult}
+use Rattle.std.proofs.Common.{◌≡◌, ℕ, zero, suc, ◌+◌, ◌<◌, ◌≤◌, List, [], ◌∷◌, ◌++◌, length, get_or, take, Some, None, Ok, Err, Option, Result, sym, refl, ap, ◌∙◌, subst, inl, inr, add-zero, zero-add, arith, MatchResult}
 use Rattle.std.specs.Option.{ok_or}
 use Rattle.std.proofs.lemmas.Bool.{cases_order}
 use Rattle.std.proofs.lemmas.List.{append_assoc, append-nil, take_all}
@@ -114,18 +114,8 @@ module _ {S A : Type 0} (f : Form S A) (Fit : S → Type 0) (l : Lively f Fit) w
   read_end t u e h (Some a) z =
       (sym (finished f 0 f.first t u e ∙ ap (λ o. given o (Err (0 + length t)) (λ a. Ok a)) z), (u, (e, z)))
 
--- the same texts, the same place
-pub departs-same : (P Q : List ℕ → Type 0) → ((t : List ℕ) → P t → Q t) → ((t : List ℕ) → Q t → P t)
-    → (t : List ℕ) (n : ℕ) → Departs P t n → Departs Q t n
-departs-same P Q to from t n d = record {
-  other = λ q. d.other (from t q);
-  within = d.within;
-  so_far = (d.so_far.0, to (take n t ++ d.so_far.0) d.so_far.1);
-  no_further = λ m h k w. d.no_further m h k (w.0, from (take m t ++ w.0) w.1);
-}
-
 -- what a text says is read
-pub reading_says : {S A : Type 0} (f : Form S A) (t : List ℕ) (a : A) → Says f t a → reading f t ≡ Ok a
+reading_says : {S A : Type 0} (f : Form S A) (t : List ℕ) (a : A) → Says f t a → reading f t ≡ Ok a
 reading_says f t a w =
     finished f 0 f.first t w.0 w.1.0 ∙ ap (λ o. given o (Err (0 + length t)) (λ b. Ok b)) w.1.1
 
@@ -148,10 +138,32 @@ says_reading {S} {A} f t a e = from 0 f.first t e
         as (λ o. given o (Err n) (λ v. reading_from f (suc n) v t) ≡ Ok a → (u : S) × ((given o None (λ v. led f v t) ≡ Some u) × (f.content u ≡ Some a)))
         [ None ↦ failed n | Some v ↦ from (suc n) v t ] k
 
-pub one_place : (P : List ℕ → Type 0) (t : List ℕ) (m n : ℕ) → Departs P t m → Departs P t n → m ≡ n
+one_place : (P : List ℕ → Type 0) (t : List ℕ) (m n : ℕ) → Departs P t m → Departs P t n → m ≡ n
 one_place P t m n d e =
     elim (cases_order m n) [
       | inl z ↦ z
       | inr (inl z) ↦ absurd (d.no_further n z e.within e.so_far)
       | inr (inr z) ↦ absurd (e.no_further m z d.within d.so_far)
     ]
+
+-- what reading gives, in other words for what a text of the form says
+module _ {S A : Type 0} (f : Form S A) (Stands : List ℕ → A → Type 0)
+    (to : (t : List ℕ) (a : A) → Says f t a → Stands t a) (from : (t : List ℕ) (a : A) → Stands t a → Says f t a) where
+  abbrev pub Texts : List ℕ → Type 0
+  Texts t = (a : A) × Stands t a
+
+  -- a text departs from the same texts at the same place
+  departs_so : (t : List ℕ) (n : ℕ) → Departs (TextsOf f) t n → Departs Texts t n
+  departs_so t n d = record {
+    other = λ w. d.other (w.0, from t w.0 w.1);
+    within = d.within;
+    so_far = (d.so_far.0, (d.so_far.1.0, to (take n t ++ d.so_far.0) d.so_far.1.0 d.so_far.1.1));
+    no_further = λ m h k w. d.no_further m h k (w.0, (w.1.0, from (take m t ++ w.0) w.1.0 w.1.1));
+  }
+
+  pub read_so : (t : List ℕ) (r : Result A ℕ) → r ≡ reading f t → MatchResult r (λ a. Says f t a) (λ n. Departs (TextsOf f) t n)
+      → MatchResult r (λ a. Stands t a) (λ n. Departs Texts t n) × ((a : A) → Stands t a → r ≡ Ok a) × ((n : ℕ) → Departs Texts t n → r ≡ Err n)
+  read_so t (Ok b) e m =
+      (to t b m, (λ a w. e ∙ reading_says f t a (from t a w)), (λ n d. absurd (d.other (b, to t b m))))
+  read_so t (Err k) e m =
+      (departs_so t k m, (λ a w. e ∙ reading_says f t a (from t a w)), (λ n d. ap Err (one_place Texts t k n (departs_so t k m) d)))

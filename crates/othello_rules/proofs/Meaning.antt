@@ -9,10 +9,10 @@ use Rattle.std.proofs.lemmas.Bool.{eqb-true, eq-eqb, ne_eqb, cases_eq, and_left,
 use Rattle.std.proofs.lemmas.List.{append_assoc}
 use Rattle.board.specs.Masks.{bit}
 use Rattle.board.proofs.Bits.{bit-and, bit-or, bit-single, bit-none, bit_ext}
-use Rattle.form.specs.Forms.{given, led, Says, TextsOf}
+use Rattle.form.specs.Forms.{given, led, Says}
 use Rattle.form.proofs.Departing.{never}
 use Rattle.othello_rules.specs.Letters.{'X', 'O', dot, blank}
-use Rattle.othello_rules.specs.Texts.{letter, mark, squares, Stands, Texts}
+use Rattle.othello_rules.specs.Texts.{letter, mark, squares, Stands}
 use Rattle.othello_rules.specs.Reading.{reader, past, said, diagram, form}
 use Rattle.othello_rules.specs.declared.side.Side.{Side}
 use Rattle.othello_rules.specs.declared.side.Side.TheVariants.{X, O}
@@ -302,9 +302,3 @@ says t d w =
     subst (Taken (reader (Square 0) 0 0)) (sym (joined-text t d w)) (taken 64 0 0 0 d.x d.o w.blanks d.mover refl) in
     let s : Says form t k.1.0 = (k.0, (k.1.1.0, k.1.1.1)) in
     subst (Says form t) (unique t k.1.0 d (stands t k.1.0 s) w) s
-
-pub texts-to : (t : List ℕ) → TextsOf form t → Texts t
-texts-to t w = (w.0, stands t w.0 w.1)
-
-pub texts-from : (t : List ℕ) → Texts t → TextsOf form t
-texts-from t w = (w.0, says t w.0 w.1)

@@ -1,25 +1,10 @@
-use Rattle.std.proofs.Common.{◌≡◌, ℕ, Ok, Err, Result, ap, ◌∙◌, MatchResult}
-use Rattle.std.proofs.lemmas.Result.{MatchResult-weaker}
-use Rattle.form.specs.Forms.{TextsOf, Departs}
-use Rattle.form.proofs.Departing.{departs-same, one_place, reading_says}
-use Rattle.chess_text.specs.Diagrams.{Texts, Stands}
+use Rattle.form.proofs.Departing.{read_so}
+use Rattle.chess_text.specs.Diagrams.{Stands}
 use Rattle.chess_text.specs.Reading.{form}
-use Rattle.chess_moves.specs.declared.diagram.Diagram.{Diagram}
-use Rattle.chess_text.proofs.Meaning.{stands, says, texts-to, texts-from}
+use Rattle.chess_text.proofs.Meaning.{stands, says}
 use Rattle.chess_text.proofs.reading.read.Goals as goal
 
 pub returns : goal.returns
 returns c =
-    let t = c.args.text.now in
-    let same = departs-same (TextsOf form) Texts texts-to texts-from t in
-    record {
-      exact = c.read.ensures.exact;
-      meaning = MatchResult-weaker c.read.result c.read.ensures.meaning (stands t) same;
-      taken = λ d w. c.read.ensures.exact ∙ reading_says form t d (says t d w);
-      refused = λ n w. at n w c.read.result (MatchResult-weaker c.read.result c.read.ensures.meaning (stands t) same);
-    }
-  where
-    at : (n : ℕ) → Departs Texts c.args.text.now n → (r : Result Diagram ℕ)
-        → MatchResult r (λ d. Stands c.args.text.now d) (λ m. Departs Texts c.args.text.now m) → r ≡ Err n
-    at n w (Ok d) k = absurd (w.other (d, k))
-    at n w (Err m) k = ap Err (one_place Texts c.args.text.now m n k w)
+    let r = read_so form Stands stands says c.args.text.now c.read.result c.read.ensures.exact c.read.ensures.meaning in
+    record { exact = c.read.ensures.exact; meaning = r.0; taken = r.1; refused = r.2 }

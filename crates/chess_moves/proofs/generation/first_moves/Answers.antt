@@ -1,5 +1,5 @@
-use Rattle.std.proofs.Common.{ℕ, sym, ap, arith}
-use Rattle.chess_moves.specs.Moves.{moves_from, passing_of}
+use Rattle.std.proofs.Common.{sym, arith}
+use Rattle.chess_moves.specs.Moves.{passing_of}
 use Rattle.chess_moves.proofs.Adding.{adds_none, adds_more, adds_full, adds_as, adds_first}
 use Rattle.chess_moves.proofs.Parts.{from_none, from_more, from-rest}
 use Rattle.chess_moves.proofs.generation.first_moves.Goals as goal
@@ -21,8 +21,3 @@ loop-from-preserved g c =
     adds_as
     (sym (from_more d.board d.mover (passing_of d) c.loop-from.from-iterator.next _ _ c.in-Some.ensures.steps.1 c.in-Some.ensures.steps.2))
     (adds_more c.loop-from.invariant c.list_from.ensures)
-
-pub returns : goal.returns
-returns g c =
-    let d = c.args.diagram.now in
-    adds_first c.new-list.ensures (adds_as (ap (λ (n : ℕ). moves_from d.board d.mover (passing_of d) n) c.in-None.ensures.steps.0) c.loop-from.invariant)

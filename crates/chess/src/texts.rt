@@ -1,5 +1,4 @@
 ghost use Rattle.std.specs.Prelude.{◌≡◌, map};
-ghost use Rattle.std.specs.List.{slice_get};
 ghost use Rattle.chess_moves.specs.Moves.{listed};
 ghost use Rattle.chess.specs.Trees.{letter, text_of};
 ghost use Rattle.chess.specs.Finding.{Finds};

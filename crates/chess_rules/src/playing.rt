@@ -1,4 +1,4 @@
-ghost use Rattle.std.specs.Prelude.{◌≡◌, ℕ, MatchOption};
+ghost use Rattle.std.specs.Prelude.{◌≡◌, MatchOption};
 ghost use Rattle.chess_moves.specs.Legal.{Lists};
 ghost use Rattle.chess_moves.specs.Moves.{legal_moves, listed};
 ghost use Rattle.chess_rules.specs.Lawful.{Lawful};

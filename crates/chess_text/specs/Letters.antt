@@ -1,4 +1,4 @@
--- The letters of men and sides: which letter a man has, chess_attacks says.
+-- The letters of men, which are those of chess_attacks, and of sides.
 use Rattle.std.specs.Prelude.{ℕ, ◌-◌, cond, ◌&&◌, Some, None, Option, ◌==◌, nat_le}
 use Rattle.chess_attacks.specs.Letters.{letter}
 use Rattle.chess_attacks.specs.declared.men.Man.{Man}

@@ -21,22 +21,22 @@ means S keeping positions ranging h t b a h' i r =
     λ s. trials_are_right_lem positions ranging S keeping h t b a h' s i r in
     record { sound = λ s. (right s).0; won = λ s. (right s).1; not_won = λ s. (right s).2; spent = spent-is-meant S h t b a h' r }
 
-pub returns : goal.returns
-returns g c =
-    let S : Storing = g.T.Table.stored in
+pub returns-clause-right : goal.returns-clause-right
+returns-clause-right g c =
     let h : Held = g.T.Table.held c.args.table.now in
     let h' : Held = g.T.Table.held c.try_position.new.table in
     let t : Tree = g.G.Game.current c.args.game.now in
-    let r : Trial S h t c.args.budget c.try_position.result h' =
-    subst (λ (b : ℕ). Trial S h t b c.try_position.result h') c.in_ok-budget.ensures c.try_position.ensures.tried in
-    let within : c.args.budget ≤ 99999999 = subst (λ (b : ℕ). b ≤ 99999999) c.in_ok-budget.ensures c.in_ok-budget.budget.within in
-    let enough : 6144 ≤ length c.args.records.now = c.in-Some.ensures.cases.enough in
-    let taken : trial_decline c.args.budget (length c.args.records.now) ≡ None = accepted c.args.budget (length c.args.records.now) within enough in
-    record {
-      at = c.try_position.ensures.at;
-      path = c.try_position.ensures.path;
-      right = means S (record { own = g.met.T.Table.own; other = g.met.T.Table.other })
-          g.G.Game.positions (ranging g.met.G.Game.lawful)
-          h t c.args.budget c.try_position.result h' (g.met.G.Game.within c.args.game.now) r;
-      tried = (taken, r);
-    }
+    means g.T.Table.stored (record { own = g.met.T.Table.own; other = g.met.T.Table.other })
+    g.G.Game.positions (ranging g.met.G.Game.lawful)
+    h t c.args.budget c.try_position.result h' (g.met.G.Game.within c.args.game.now)
+    (subst (λ (b : ℕ). Trial g.T.Table.stored h t b c.try_position.result h') c.in_ok-budget.ensures c.try_position.ensures.tried)
+
+pub returns-clause-tried : goal.returns-clause-tried
+returns-clause-tried g c =
+    let h : Held = g.T.Table.held c.args.table.now in
+    let h' : Held = g.T.Table.held c.try_position.new.table in
+    let t : Tree = g.G.Game.current c.args.game.now in
+    let within : c.args.budget ≤ 99999999 = subst (λ (b : ℕ). b ≤ 99999999) c.in_ok-budget.ensures c.in_ok-budget.budget.within in (
+      accepted c.args.budget (length c.args.records.now) within c.in-Some.ensures.cases.enough,
+      subst (λ (b : ℕ). Trial g.T.Table.stored h t b c.try_position.result h') c.in_ok-budget.ensures c.try_position.ensures.tried,
+    )

@@ -1,8 +1,10 @@
 -- What a play, a take-back and a push leave, where they cannot be refused.
 use Rattle.std.proofs.Common.{◌≡◌, ℕ, ◌<◌, ◌≤◌, List, [], ◌∷◌, length, get_or, Ok, Err, Result, arith, MatchResult}
+use Rattle.std.specs.List.{AllByRecursion}
+use Rattle.std.proofs.ByRecursion.{All-get_or}
 use Rattle.game.specs.declared.decline.Decline.{Decline}
 use Rattle.game.specs.declared.decline.Decline.TheVariants.{MoveNumber, TakeBack}
-use Rattle.game.specs.Tree.{Tree, nowhere, next}
+use Rattle.game.specs.Tree.{Tree, nowhere, rank, next}
 
 -- what the game says of a play of number i from t to t', and of a take-back; what the stack says of a push
 abbrev pub PlaySays : {X : Type 0} → ℕ → Tree → List Tree → Tree → List Tree → Result X Decline → Type 0
@@ -19,6 +21,13 @@ abbrev pub PushSays : {X E : Type 0} → E → List E → ℕ → List E → Res
 PushSays e es room es' r = MatchResult r
     (λ _. (length es < room) × (es' ≡ e ∷ es))
     (λ x. (x ≡ e) × (length es ≡ room) × (es' ≡ es))
+
+-- after a move the rank is lower, so where there is a move it is above 0
+pub falls_at : (t : Tree) → AllByRecursion (λ u. rank u < rank t) (next t) → (i : ℕ) → i < length (next t) → rank (get_or (next t) i nowhere) < rank t
+falls_at t h i l = All-get_or (λ u. rank u < rank t) (next t) i nowhere l h
+
+pub ranked_at : (t : Tree) → AllByRecursion (λ u. rank u < rank t) (next t) → 0 < length (next t) → 0 < rank t
+ranked_at t h l = omega (arith, falls_at t h 0 l)
 
 pub played : {X : Type 0} (r : Result X Decline) (i : ℕ) (t : Tree) (ts : List Tree) (t' : Tree) (ts' : List Tree) →
     PlaySays i t ts t' ts' r → i < length (next t) → (t' ≡ get_or (next t) i nowhere) × (ts' ≡ t ∷ ts)

@@ -3,4 +3,3 @@ pub mod Plain
 pub mod Search
 pub mod Machine
 pub mod Finishes
-pub mod Known

@@ -1,14 +1,13 @@
-ghost use Rattle.std.specs.Prelude.{◌≡◌, ◌<◌, map, length, slice_index_or};
-ghost use Rattle.game.specs.Tree.{Tree, nowhere, next};
+ghost use Rattle.std.specs.Prelude.{◌≡◌, ◌<◌, if◌then◌else◌, Some, map, length, slice_index_or};
+ghost use Rattle.game.specs.Tree.{Tree, nowhere, state, code, next, ended};
 ghost use Rattle.search_laws.specs.Run.{listed};
-ghost use Rattle.search.specs.Known.{known_pair};
 
 use game::{Game, State};
 use table::{Pair, Table};
 
 // The pair that is known of the game's position: decided if it has ended, else the table's, if it holds one.
 pub(crate) fn known_pair<G: Game, T: Table>(game: &G, table: &T) -> Option<Pair>
-    ensures { result ≡ known_pair (T.held table.now) (G.current game.now) }
+    ensures { result ≡ (if ended (state (G.current game.now)) then Some (listed (T.held table.now) (G.current game.now)) else T.held table.now (code (G.current game.now))) }
 {
     match game.state() {
         State::Won => Some(Pair::WON),

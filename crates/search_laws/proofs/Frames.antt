@@ -3,6 +3,7 @@ use Rattle.std.proofs.Common.{◌≡◌, ℕ, zero, suc, ◌<◌, Bool, true, fa
 use mathlib.Core.List.{List-discrete}
 use native.Mathlib.Decide.{ℕ_discrete}
 use Rattle.std.specs.List.{AllByRecursion}
+use Rattle.std.proofs.ByRecursion.{All-get_or}
 use Rattle.std.proofs.lemmas.List.{get_or-map, length-map}
 use Rattle.game.specs.declared.state.State.TheVariants.{Won, NotWon, Attacker, Defender}
 use Rattle.game.specs.Tree.{Tree, node, nowhere, state, code, next, minimax, some_won, all_won}
@@ -56,11 +57,6 @@ active_child Defends (node Won r c m) p f x y = let e : p.disproof ≡ top = dis
 active_child Defends (node NotWon r c m) p f x y = absurd (y (proof-of (f.ended_not refl)))
 active_child Defends (node Attacker r c m) p f x y = tt
 active_child Defends (node Defender r c m) p f x y = tt
-
-pub all-at : {X : Type 0} (P : X → Type 0) (xs : List X) (i : ℕ) (d : X) → AllByRecursion P xs → i < length xs → P (get_or xs i d)
-all-at P [] i d h l = absurd (omega arith)
-all-at P (x ∷ xs) zero d h l = h.0
-all-at P (x ∷ xs) (suc i) d h l = all-at P xs i d h.1 (omega arith)
 
 module _ (positions : Tree → Type 0) where
   pub record Good (f : Frame) : Type 0 where
@@ -151,7 +147,7 @@ module _ (positions : Tree → Type 0) (ranging : Ranging positions) (stored : S
       sym (get_or-map (own s) ps i won 0 in-ps) ∙ first-at (least (owns s ps)) (owns s ps) 0 refl b.0 in
       let no_top : against s (get_or ps i won) ≡ top → ⊥ =
       λ z. let w = capped-top (againsts s ps) i 0 (omega arith) (get_or-map (against s) ps i won 0 in-ps ∙ z) in omega (arith, b.1) in (
-        all-at positions us i nowhere (ranging.closed f.at g.place) in-us,
+        All-get_or positions us i nowhere in-us (ranging.closed f.at g.place),
         active_child s (taken f) (get_or ps i won) (fit_at us ps g.fit i won in-us) (omega (arith, b.0)) no_top,
         thresholds-low s f.thresholds ps g.low,
       )

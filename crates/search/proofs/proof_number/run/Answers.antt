@@ -1,8 +1,8 @@
-use Rattle.std.proofs.Common.{◌≡◌, ℕ, suc, ◌-◌, ◌<◌, List, length, refl, ap, ◌∙◌, arith}
-use Rattle.game.specs.Tree.{Tree, rank, next, nowhere}
-use Rattle.search_laws.proofs.Frames.{all-at}
+use Rattle.std.proofs.Common.{◌≡◌, ℕ, suc, ◌-◌, List, refl, ap, ◌∙◌, arith}
+use Rattle.game.specs.Tree.{Tree}
 use Rattle.stack.specs.Contents.{contents}
 use Rattle.search.specs.declared.frame.Step.TheVariants.{Enter, Work, Back}
+use Rattle.search.proofs.Moves.{ranked_at}
 use Rattle.search.proofs.Steps.{under_back, went, started, stopping, giving, enter_asks, work_asks, hand_asks}
 use Rattle.search.proofs.proof_number.run.Goals as goal
 
@@ -28,9 +28,8 @@ pub enter-requires : goal.enter-requires
 enter-requires g c =
     let t : Tree = g.G.Game.current c.loop-step.game in
     let at = g.met.G.Game.within c.loop-step.game in
-    let high : 0 < length (next t) → 0 < rank t = λ l. omega (arith, all-at (λ u. rank u < rank t) (next t) 0 nowhere (g.met.G.Game.lawful.falls t at) l) in
     enter_asks _ c.loop-step.step _ t _ c.loop-step.records _ _ c.loop-step.invariant.0 (omega arith) c.in-Enter.thresholds _ c.in-Enter.is
-    (g.met.G.Game.lawful.narrow t at) high c.first_free.ensures
+    (g.met.G.Game.lawful.narrow t at) (ranked_at t (g.met.G.Game.lawful.falls t at)) c.first_free.ensures
 
 pub work-step-requires : goal.work-step-requires
 work-step-requires g c =

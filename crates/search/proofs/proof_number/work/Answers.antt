@@ -1,8 +1,8 @@
-use Rattle.std.proofs.Common.{◌≡◌, ℕ, ◌<◌, true, false, sym, ◌∙◌, ap₂}
-use Rattle.game.specs.Tree.{Tree, rank, next, nowhere}
+use Rattle.std.proofs.Common.{◌≡◌, ℕ, true, false, sym, ◌∙◌, ap₂}
+use Rattle.game.specs.Tree.{Tree}
 use Rattle.table.specs.declared.side.Side.{Side}
 use Rattle.search_laws.specs.Run.{reached_at, turned, handed_down}
-use Rattle.search_laws.proofs.Frames.{all-at}
+use Rattle.search.proofs.Moves.{falls_at}
 use Rattle.search.proofs.Steps.{given, taken}
 use Rattle.search.proofs.proof_number.work.Goals as goal
 
@@ -19,7 +19,7 @@ returns-clause-goes g c n =
     let s : Side = c.args.frame.side in
     let no : reached_at c.args.frame.thresholds c.of-figures.result.pair ≡ false = sym c.has_reached.ensures ∙ c.if-has_reached.false in
     taken g.T.Table.stored _ c.args.frame _ t _ c.args.records.now _ n c.of-figures.result.pair _ _
-    (g.met.G.Game.lawful.narrow t at) (λ i l. all-at (λ u. rank u < rank t) (next t) i nowhere (g.met.G.Game.lawful.falls t at) l)
+    (g.met.G.Game.lawful.narrow t at) (falls_at t (g.met.G.Game.lawful.falls t at))
     c.of-figures.ensures.pair no c.of-figures.ensures.place
     (c.hand_down-thresholds.ensures ∙ ap₂ (λ (x y : ℕ). turned s (handed_down (turned s c.args.frame.thresholds) x y)) c.of-figures.ensures.second c.of-figures.ensures.rest)
     c.push.result c.play.result _ _ _ _ c.requires.room c.push.ensures.pushed c.play.ensures

@@ -56,14 +56,3 @@ opposite NorthEast = SouthWest
 opposite NorthWest = SouthEast
 opposite SouthEast = NorthWest
 opposite SouthWest = NorthEast
-
--- what one step adds to the number of a square, modulo 256
-abbrev pub step : Direction → ℕ
-step East = 1
-step West = 255
-step North = 8
-step South = 248
-step NorthEast = 9
-step NorthWest = 7
-step SouthEast = 249
-step SouthWest = 247

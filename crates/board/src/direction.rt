@@ -1,5 +1,5 @@
-ghost use Rattle.std.specs.Prelude.{◌≡◌};
-ghost use Rattle.board.specs.Squares.{opposite, step};
+ghost use Rattle.std.specs.Prelude.{◌≡◌, ℕ, ◌+◌, ◌*◌, ◌%◌, ◌<◌, ◌≤◌};
+ghost use Rattle.board.specs.Squares.{opposite, reach, away};
 
 /// The eight directions of a line: north is towards row 8, east towards file h.
 #[derive(Clone, Copy, PartialEq, Eq, Debug)]
@@ -45,7 +45,7 @@ impl Direction {
 
     // What one step adds to the number of a square, modulo 256.
     pub(crate) fn step(self) -> u8
-        ensures { result ≡ step self }
+        ensures { (s k : ℕ) → s < 64 → k ≤ reach self s → (s + k * result % 256) % 256 ≡ away self s k }
     {
         match self {
             Direction::East => 1,

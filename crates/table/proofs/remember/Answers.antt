@@ -3,15 +3,14 @@ use Rattle.table.specs.declared.pair.Pair.{Pair}
 use Rattle.table.specs.Pairs.{Code, Held}
 use Rattle.table.proofs.remember.Goals as goal
 
-pub returns : goal.returns
-returns g c =
+pub returns-clause-own : goal.returns-clause-own
+returns-clause-own g c =
     let h : Held = g.T.Table.held c.args.table.now in
     let k : Code = c.args.code.now in
-    let e = c.store.ensures in
-    let r = c.look_up.ensures ∙ ap (λ (f : Held). f k) e in
-    record {
-      holds = c.look_up.ensures;
-      stores = e;
-      own = subst (λ (o : Option Pair). (o ≡ Some c.args.pair) ⊎ ((o ≡ h k) ⊎ (o ≡ None))) (sym r) (g.met.T.Table.own h k c.args.pair);
-      others = λ d n. subst (λ (o : Option Pair). (o ≡ h d) ⊎ (o ≡ None)) (sym (ap (λ (f : Held). f d) e)) (g.met.T.Table.other h k d c.args.pair n);
-    }
+    subst (λ (o : Option Pair). (o ≡ Some c.args.pair) ⊎ ((o ≡ h k) ⊎ (o ≡ None))) (sym (c.look_up.ensures ∙ ap (λ (f : Held). f k) c.store.ensures))
+    (g.met.T.Table.own h k c.args.pair)
+
+pub returns-clause-others : goal.returns-clause-others
+returns-clause-others g c d n =
+    let h : Held = g.T.Table.held c.args.table.now in
+    subst (λ (o : Option Pair). (o ≡ h d) ⊎ (o ≡ None)) (sym (ap (λ (f : Held). f d) c.store.ensures)) (g.met.T.Table.other h c.args.code.now d c.args.pair n)

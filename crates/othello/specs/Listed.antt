@@ -93,12 +93,3 @@ module _ (attacker : Side) (aim : ℕ) (d : Diagram) where
     next_there i h =
         sym (ap (λ (l : List Tree). get_or l i nowhere) next_place
         ∙ get_or-map (λ (s : ℕ). tree attacker aim (placed d s)) (placements d) i 0 nowhere h)
-
--- ---- a list by number
-
-module _ (ws : List (List ℕ)) (i : ℕ) (h : i < length ws) where
-  pub word_there : (w : List ℕ) → Some w ≡ slice_get ws i → w ≡ slice_index_or ws i []
-  word_there w e = let k = slice_get-get_or ws i [] h in cc
-
-  pub none_there : {T : Type 0} → None ≡ slice_get ws i → T
-  none_there e = let k = slice_get-get_or ws i [] h in absurd (let z : ◌≡◌ {A = ℕ} 0 1 = cc in omega arith)

@@ -34,11 +34,6 @@ pub played : {X : Type 0} (r : Result X Decline) (i : ℕ) (t : Tree) (ts : List
 played (Ok x) i t ts t' ts' h l = (h.1, h.2)
 played (Err e) i t ts t' ts' h l = absurd (omega (arith, h.0))
 
-pub taken_back : {X : Type 0} (r : Result X Decline) (t : Tree) (ts : List Tree) (t' : Tree) (ts' : List Tree) (u : Tree) (us : List Tree) →
-    BackSays t ts t' ts' r → ts ≡ u ∷ us → (t' ≡ u) × (ts' ≡ us)
-taken_back (Ok x) t ts t' ts' u us h e = ((cc), (cc))
-taken_back (Err x) t ts t' ts' u us h e = let n = h.0 in let z : ◌≡◌ {A = ℕ} 0 1 = cc in absurd (omega arith)
-
 pub pushed : {X E : Type 0} (r : Result X E) (e : E) (es : List E) (room : ℕ) (es' : List E) →
     PushSays e es room es' r → length es < room → es' ≡ e ∷ es
 pushed (Ok x) e es room es' h l = h.1

@@ -1,17 +1,14 @@
 -- What the slots of the newest policy hold after a store, a clear and a making.
-use Rattle.std.specs.Prelude.{◌≡◌, ℕ, ◌<◌, ◌≤◌, Bool, true, false, cond, ◌⊎◌, List, ◌++◌, length, get_or, take, replicate, Some, None, vec_len, Decides, fold, Option, ◌==◌, ◌≢◌, slice_index_or, slice_set, refl}
+use Rattle.std.specs.Prelude.{◌≡◌, ℕ, ◌<◌, ◌≤◌, Bool, true, false, cond, ◌⊎◌, List, ◌++◌, length, get_or, take, replicate, Some, None, fold, Option, ◌==◌, ◌≢◌, slice_index_or, slice_set, refl}
 use Rattle.std.proofs.Common.{arith, sym, ap, ◌∙◌, inl, inr, get_or-set_same, get_or-set_other}
 use Rattle.std.proofs.Math.Path.{fun_ext}
-use mathlib.Core.HLevel.{is_prop→PathP}
-use base.Stored.{Coded-set, coded_ℕ}
-use borrow.Author.Tests.{eqb-true, eqb-false, clash}
+use borrow.Author.Tests.{eqb-true, eqb-false}
 use Rattle.std.specs.Str.{bytes_eq}
 use Rattle.std.proofs.lemmas.List.{take_at, get_or-replicate}
 use Rattle.std.proofs.lemmas.Slice.Eq.{bytes_eq-Decides}
 use Rattle.std.proofs.lemmas.Nat.{and_le_r}
 use Rattle.table.specs.declared.pair.Pair.{Pair}
 use Rattle.table.specs.declared.slot.Slot.{Slot}
-use Rattle.table.specs.declared.slot.Newest.{Newest}
 use Rattle.table.specs.Pairs.{Code, Held}
 use Rattle.table.specs.Slots.{mixed, slot_of, kept_in, empty, in_slots, newest}
 
@@ -57,14 +54,6 @@ module _ (xs : List Slot) (c : Code) (p : Pair) (full : length xs ≡ 512) where
   pub after_store : in_slots (slice_set xs (slot_of c) there) ≡ newest (in_slots xs) c p
   after_store = fun_ext (λ d. by_slot d (slot_of c == slot_of d) refl)
 
-pub read_same : (xs : List Slot) (c : Code) (s : Slot) (b : Bool) → s ≡ slice_index_or xs (slot_of c) empty → bytes_eq s.code c ≡ b → in_slots xs c ≡ cond b s.pair None
-read_same xs c s b e q = ap (λ t. kept_in t c) (sym e) ∙ rw q
-
--- a test that decides whether two lists are equal is `sameBytes`
-pub agree : (xs ys : List ℕ) (r : Bool) → Decides r (xs ≡ ys) → bytes_eq xs ys ≡ r
-agree xs ys true h = (bytes_eq-Decides xs ys).1 (h.0 refl)
-agree xs ys false h = refuted (bytes_eq xs ys) (λ e. let z : false ≡ true = h.1 ((bytes_eq-Decides xs ys).0 e) in clash z)
-
 none_kept : (b : Bool) (o : Option Pair) → o ≡ None → cond b o None ≡ None
 none_kept true o e = e
 none_kept false o e = refl
@@ -73,11 +62,6 @@ pub all_clear : (xs ys : List Slot) (n : ℕ) → n ≡ 512 → length xs ≡ n 
 all_clear xs ys n e l h c =
     ap (λ zs. in_slots zs c) (take_at xs ys n l)
     ∙ none_kept (bytes_eq (get_or xs (slot_of c) empty).code c) (get_or xs (slot_of c) empty).pair (h (slot_of c) (omega (arith, slot_within c)))
-
--- tables with the same slots are equal: the fact that there are 512 has one proof at most
-pub same_table : (a b : Newest) → a.slots ≡ b.slots → a ≡ b
-same_table a b e =
-    λ i. record { slots = e i; full = is_prop→PathP (λ j. vec_len (e j) ≡ 512) (λ j. Coded-set coded_ℕ (vec_len (e j)) 512) a.full b.full i }
 
 -- `n` is 512, and no numeral, since a list of 512 slots would be written out
 pub new_clear : (xs : List Slot) (s : Slot) (n : ℕ) → 512 ≤ n → s.pair ≡ None → xs ≡ replicate n s → (c : Code) → in_slots xs c ≡ None

@@ -1,4 +1,4 @@
-ghost use Rattle.std.specs.Prelude.{◌≡◌, ℕ, ◌-◌, ◌*◌, ◌<◌, Some, None, MatchResult};
+ghost use Rattle.std.specs.Prelude.{◌≡◌, ℕ, ◌-◌, Some, MatchResult};
 ghost use Rattle.std.specs.List.{slice_get};
 ghost use Rattle.game.specs.Tree.{position, refused, state, code};
 ghost use Rattle.chess_attacks.specs.Men.{same_side};

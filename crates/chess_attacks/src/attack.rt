@@ -1,5 +1,4 @@
-ghost use Rattle.std.specs.Prelude.{◌≡◌, ℕ, ◌+◌, ◌<◌, ◌≤◌, Bool, true, false, ◌&&◌, ◌||◌, Decides};
-ghost use Rattle.chess_attacks.specs.Men.{king_of};
+ghost use Rattle.std.specs.Prelude.{◌≡◌, Decides};
 ghost use Rattle.chess_attacks.specs.Commands.{Attacked, Checked};
 ghost use Rattle.chess_attacks.specs.Lists.{attacked, king_hit, checked};
 

@@ -1,4 +1,4 @@
-ghost use Rattle.std.specs.Prelude.{◌≡◌, ℕ, ◌+◌, ◌<◌, ◌≤◌, Decides};
+ghost use Rattle.std.specs.Prelude.{◌≡◌, ℕ, Decides};
 ghost use Rattle.board.specs.Masks.{bit, mask};
 ghost use Rattle.chess_attacks.specs.Men.{on};
 ghost use Rattle.chess_attacks.specs.Ranges.{range_of};

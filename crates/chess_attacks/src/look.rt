@@ -1,4 +1,4 @@
-ghost use Rattle.std.specs.Prelude.{◌≡◌, ℕ, ◌+◌, ◌<◌, ◌≤◌, Bool, true, false, ◌&&◌, ◌||◌};
+ghost use Rattle.std.specs.Prelude.{◌≡◌};
 ghost use Rattle.chess_attacks.specs.Lists.{beside, numbered};
 ghost use Rattle.chess_attacks.specs.Look.{struck, leapt, line_attack, leap_attack};
 

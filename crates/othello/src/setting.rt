@@ -1,4 +1,4 @@
-ghost use Rattle.std.specs.Prelude.{◌≡◌, ℕ, ◌<◌, ◌≤◌, MatchResult};
+ghost use Rattle.std.specs.Prelude.{◌≡◌, MatchResult};
 ghost use Rattle.game.specs.Tree.{position, refused};
 ghost use Rattle.othello.specs.Positions.{tree_of};
 ghost use Rattle.othello.specs.Setting.{reading, Taken, Declined};

@@ -1,4 +1,4 @@
-ghost use Rattle.std.specs.Prelude.{◌≡◌, ℕ, ◌+◌, ◌<◌, ◌≤◌, length, map, MatchOption, slice_index};
+ghost use Rattle.std.specs.Prelude.{◌≡◌, ◌<◌, ◌≤◌, length, map, MatchOption, slice_index};
 ghost use Rattle.othello_rules.specs.Rules.{any};
 ghost use Rattle.board.specs.Masks.{bit, size};
 ghost use Rattle.othello_rules.specs.Diagrams.{discs, empties, placements, turn};

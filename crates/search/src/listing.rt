@@ -1,5 +1,5 @@
 ghost use Rattle.std.specs.Prelude.{◌≡◌, ◌<◌, if◌then◌else◌, Some, map, length, slice_index_or};
-ghost use Rattle.game.specs.Tree.{Tree, nowhere, state, code, next, ended};
+ghost use Rattle.game.specs.Tree.{nowhere, state, code, next, ended};
 ghost use Rattle.search_laws.specs.Run.{listed};
 
 use game::{Game, State};

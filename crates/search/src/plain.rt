@@ -1,4 +1,4 @@
-ghost use Rattle.std.specs.Prelude.{◌≡◌, ℕ, ◌+◌, ◌<◌, ◌≤◌, List, [], ◌∷◌, MatchOption};
+ghost use Rattle.std.specs.Prelude.{◌≡◌, ℕ, ◌<◌, ◌≤◌, List, ◌∷◌, MatchOption};
 ghost use Rattle.game.specs.Tree.{Tree};
 ghost use Rattle.stack.specs.Contents.{contents, room};
 ghost use Rattle.search.specs.declared.entry.Entry.{Entry as Kept};

@@ -1,7 +1,6 @@
-ghost use Rattle.std.specs.Prelude.{◌≡◌, ℕ, suc, ◌+◌, ◌<◌, ◌≤◌, List, [], ◌∷◌, length, slice_set};
+ghost use Rattle.std.specs.Prelude.{◌≡◌, ℕ, suc, ◌+◌, ◌<◌, ◌≤◌, List, ◌∷◌, length, slice_set};
 ghost use Rattle.game.specs.Tree.{next};
 ghost use Rattle.stack.specs.Contents.{contents, room};
-ghost use Rattle.table.specs.declared.pair.Pair.{Pair};
 ghost use Rattle.table.specs.Pairs.{Held};
 ghost use Rattle.search.specs.declared.frame.Frame.{Frame as Kept};
 ghost use Rattle.search.specs.declared.frame.Step.TheVariants.{Enter, Work, Back};

@@ -1,4 +1,4 @@
-ghost use Rattle.std.specs.Prelude.{◌≡◌, ℕ, ◌+◌, ◌<◌, ◌≤◌, length, None, Option, slice_index_or};
+ghost use Rattle.std.specs.Prelude.{◌≡◌, ℕ, ◌+◌, ◌<◌, length, None, Option, slice_index_or};
 ghost use Rattle.game.specs.declared.state.State.TheVariants.{Attacker, Defender};
 ghost use Rattle.game.specs.Tree.{nowhere, state, next};
 ghost use Rattle.solution.specs.Solvers.{Stays};

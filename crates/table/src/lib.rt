@@ -1,6 +1,6 @@
 #![tactic(auto)]
 
-ghost use Rattle.std.specs.Prelude.{◌≡◌, ◌⊎◌, Some, None, Option, ◌≢◌};
+ghost use Rattle.std.specs.Prelude.{◌≡◌, ◌⊎◌, Some, None, ◌≢◌};
 ghost use Rattle.table.specs.declared.pair.Pair.{Pair};
 ghost use Rattle.table.specs.Pairs.{Code, Held};
 

@@ -1,4 +1,4 @@
-ghost use Rattle.std.specs.Prelude.{◌≡◌, ℕ, ◌+◌, ◌<◌, ◌≤◌, length, IfOk, Some, None, vec_len, Option};
+ghost use Rattle.std.specs.Prelude.{◌≡◌, ◌<◌, IfOk, None};
 ghost use Rattle.std.specs.Borrow.{sem, follows};
 ghost use Rattle.table.specs.Slots.{slot_of, in_slots, newest};
 ghost use Rattle.table.specs.Pairs.{Code};

@@ -1,4 +1,4 @@
-ghost use Rattle.std.specs.Prelude.{◌≡◌, true, false, List, [], ◌∷◌, MatchOption, if◌then◌else◌};
+ghost use Rattle.std.specs.Prelude.{◌≡◌, false, [], ◌∷◌, MatchOption, if◌then◌else◌};
 ghost use Rattle.table.specs.Numbers.{capped, well};
 ghost use Rattle.table.specs.Pairs.{won, not_won, own, against};
 

@@ -28,8 +28,8 @@ module _ (stored : Storing) (held : Held) (b : ℕ) where
   answered : (t : Tree) (s : State) → state t ≡ s → ended s ≡ true → Trial stored held t b (record { verdict = verdict_of (is_won s); expansions = 0; entries = 0 }) held
   answered t Won e h = at_once (ap (λ s. known_as s (held (code t))) e)
   answered t NotWon e h = at_once (ap (λ s. known_as s (held (code t))) e)
-  answered t Attacker e h = let z : ◌≡◌ {A = ℕ} 0 1 = cc in absurd (omega arith)
-  answered t Defender e h = let z : ◌≡◌ {A = ℕ} 0 1 = cc in absurd (omega arith)
+  answered t Attacker e h = absurd (cc)
+  answered t Defender e h = absurd (cc)
 
   pub ended_tried : (m : Moves) → all_ended m ≡ true → AllTried stored b held m (flags m) 0 held
   ended_tried none e = no_more

@@ -26,4 +26,4 @@ passed_keeps d k = record { apart = k.apart; board = k.board; few = k.few }
 -- what a placement answers
 pub some_placed : (d e : Diagram) (s : ℕ) (b : Bool) → Some e ≡ cond b (Some (placed d s)) None → (b ≡ true) × (e ≡ placed d s)
 some_placed d e s true p = (refl, cc)
-some_placed d e s false p = absurd (let z : ◌≡◌ {A = ℕ} 0 1 = cc in omega arith)
+some_placed d e s false p = absurd (cc)

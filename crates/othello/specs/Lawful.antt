@@ -100,7 +100,7 @@ pub record Given (t : List ℕ) (aim : ℕ) (u : Tree) : Type 0 where
   pub is : u ≡ tree diagram.mover aim diagram
 
 refusing : {T : Type 0} (c : Decline) (n : ℕ) (u : Tree) → refused c n ≡ position u → T
-refusing c n u e = absurd (let z : ◌≡◌ {A = ℕ} 0 1 = cc in omega arith)
+refusing c n u e = absurd (cc)
 
 pub given_by : (t : List ℕ) (aim : ℕ) (u : Tree) → reading t aim ≡ position u → Given t aim u
 given_by t aim u = aimed (nat_lt 64 aim) refl

@@ -59,7 +59,7 @@ pub alike_self : (t : Tree) → Alike t t
 alike_self t = record { states = refl; ranks = refl; counts = refl; texts = refl; codes = λ i h. refl }
 
 never : {T : Type 0} (s : State) → s ≡ Attacker → s ≡ Defender → T
-never s e f = absurd (let z : ◌≡◌ {A = ℕ} 0 1 = cc in omega arith)
+never s e f = absurd (cc)
 
 -- ---- the laws at the tree of a diagram
 
@@ -148,8 +148,8 @@ module _ (attacker : Side) (aim : ℕ) (d : Diagram) where
       own O = refl
 
       result : (b : Bool) → cond b Won NotWon ≢ Defender
-      result true k = absurd (let z : ◌≡◌ {A = ℕ} 0 1 = cc in omega arith)
-      result false k = absurd (let z : ◌≡◌ {A = ℕ} 0 1 = cc in omega arith)
+      result true k = absurd (cc)
+      result false k = absurd (cc)
 
       moving : (t : Turn) → t ≡ turn d → state_by attacker aim d t ≢ to_move attacker d.mover
       moving t f k = never (state (tree attacker aim d)) (state_turn attacker aim d t f ∙ k ∙ ap (to_move attacker) e ∙ own attacker) h

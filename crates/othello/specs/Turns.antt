@@ -14,14 +14,14 @@ by_tests a b = cond a Place (cond b Pass Ended)
 place_test : (a b : Bool) → by_tests a b ≡ Place → a ≡ true
 unfolding by_tests
 place_test true b e = refl
-place_test false true e = absurd (let z : ◌≡◌ {A = ℕ} 0 1 = cc in omega arith)
-place_test false false e = absurd (let z : ◌≡◌ {A = ℕ} 0 1 = cc in omega arith)
+place_test false true e = absurd (cc)
+place_test false false e = absurd (cc)
 
 pass_test : (a b : Bool) → by_tests a b ≡ Pass → b ≡ true
 unfolding by_tests
-pass_test true b e = absurd (let z : ◌≡◌ {A = ℕ} 0 1 = cc in omega arith)
+pass_test true b e = absurd (cc)
 pass_test false true e = refl
-pass_test false false e = absurd (let z : ◌≡◌ {A = ℕ} 0 1 = cc in omega arith)
+pass_test false false e = absurd (cc)
 
 long : (l : List ℕ) → any l ≡ true → 0 < length l
 unfolding any

@@ -20,16 +20,16 @@ use Rattle.search.proofs.Moves.{PlaySays, BackSays, PushSays, played, pushed}
 pub won_facts : (t : Tree) → state t ≡ Won → (minimax t ≡ true) × (need t ≡ 0)
 unfolding minimax need
 won_facts (node Won r c m) e = (refl, refl)
-won_facts (node NotWon r c m) e = let z : ◌≡◌ {A = ℕ} 0 1 = cc in absurd (omega arith)
-won_facts (node Attacker r c m) e = let z : ◌≡◌ {A = ℕ} 0 1 = cc in absurd (omega arith)
-won_facts (node Defender r c m) e = let z : ◌≡◌ {A = ℕ} 0 1 = cc in absurd (omega arith)
+won_facts (node NotWon r c m) e = absurd (cc)
+won_facts (node Attacker r c m) e = absurd (cc)
+won_facts (node Defender r c m) e = absurd (cc)
 
 pub not_won_facts : (t : Tree) → state t ≡ NotWon → (minimax t ≡ false) × (need t ≡ 0)
 unfolding minimax need
 not_won_facts (node NotWon r c m) e = (refl, refl)
-not_won_facts (node Won r c m) e = let z : ◌≡◌ {A = ℕ} 0 1 = cc in absurd (omega arith)
-not_won_facts (node Attacker r c m) e = let z : ◌≡◌ {A = ℕ} 0 1 = cc in absurd (omega arith)
-not_won_facts (node Defender r c m) e = let z : ◌≡◌ {A = ℕ} 0 1 = cc in absurd (omega arith)
+not_won_facts (node Won r c m) e = absurd (cc)
+not_won_facts (node Attacker r c m) e = absurd (cc)
+not_won_facts (node Defender r c m) e = absurd (cc)
 
 abbrev pub side : Bool → State
 side true = Attacker
@@ -39,12 +39,12 @@ pub open_facts : (t : Tree) (a : Bool) → state t ≡ side a → (minimax t ≡
 unfolding minimax need
 open_facts (node Attacker r c m) true e = (refl, omega arith)
 open_facts (node Defender r c m) false e = (refl, omega arith)
-open_facts (node Attacker r c m) false e = let z : ◌≡◌ {A = ℕ} 0 1 = cc in absurd (omega arith)
-open_facts (node Defender r c m) true e = let z : ◌≡◌ {A = ℕ} 0 1 = cc in absurd (omega arith)
-open_facts (node Won r c m) true e = let z : ◌≡◌ {A = ℕ} 0 1 = cc in absurd (omega arith)
-open_facts (node NotWon r c m) true e = let z : ◌≡◌ {A = ℕ} 0 1 = cc in absurd (omega arith)
-open_facts (node Won r c m) false e = let z : ◌≡◌ {A = ℕ} 0 1 = cc in absurd (omega arith)
-open_facts (node NotWon r c m) false e = let z : ◌≡◌ {A = ℕ} 0 1 = cc in absurd (omega arith)
+open_facts (node Attacker r c m) false e = absurd (cc)
+open_facts (node Defender r c m) true e = absurd (cc)
+open_facts (node Won r c m) true e = absurd (cc)
+open_facts (node NotWon r c m) true e = absurd (cc)
+open_facts (node Won r c m) false e = absurd (cc)
+open_facts (node NotWon r c m) false e = absurd (cc)
 
 pub size_is : (t : Tree) → size t ≡ 3 + sizes (moves t)
 unfolding size
@@ -215,14 +215,14 @@ module _ (e : Entry) (es : List Entry) (t t' : Tree) (ts ts' : List Tree) (n : �
 pub wins_by : (s : Side) (b : Bool) → (b ≡ true → s ≡ Attacks) → (b ≡ false → s ≡ Attacks → ⊥) → b ≡ wins s
 wins_by Attacks true f g = refl
 wins_by Attacks false f g = absurd (g refl refl)
-wins_by Defends true f g = let e = f refl in let z : ◌≡◌ {A = ℕ} 0 1 = cc in absurd (omega arith)
+wins_by Defends true f g = let e = f refl in absurd (cc)
 wins_by Defends false f g = refl
 
 pub alike_same : (v s : Side) → v ≡ s → alike (wins s) (wins v) ≡ true
 alike_same Attacks Attacks e = refl
 alike_same Defends Defends e = refl
-alike_same Attacks Defends e = let z : ◌≡◌ {A = ℕ} 0 1 = cc in absurd (omega arith)
-alike_same Defends Attacks e = let z : ◌≡◌ {A = ℕ} 0 1 = cc in absurd (omega arith)
+alike_same Attacks Defends e = absurd (cc)
+alike_same Defends Attacks e = absurd (cc)
 
 pub alike_other : (v s : Side) → (v ≡ s → ⊥) → alike (wins s) (wins v) ≡ false
 alike_other Attacks Attacks n = absurd (n refl)

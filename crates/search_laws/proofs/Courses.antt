@@ -83,15 +83,15 @@ module _ (stored : Storing) where
   gave_and_stopped : (c : Course) (held held' : Held) (left : ℕ) (p : Pair) → Runs stored c (gave held left p) → Runs stored c (stopped held') → ⊥
   gave_and_stopped c held held' left p r r' =
       let e : gave held left p ≡ stopped held' = runs_agree c _ _ r r' in
-      let z : ◌≡◌ {A = ℕ} 0 1 = cc in omega arith
+      cc
 
   pub trials_agree_lem : TrialsAgree stored
   trials_agree_lem held t b a a' h h' (at_once {v} e) (at_once {v = v'} e') =
       let z : v ≡ v' = cc in (λ i. record { verdict = z i; expansions = 0; entries = 0 }, refl)
-  trials_agree_lem held t b a a' h h' (at_once e) (by_the_run e' r d) = let z : ◌≡◌ {A = ℕ} 0 1 = cc in absurd (omega arith)
-  trials_agree_lem held t b a a' h h' (at_once e) (by_the_search e' r d) = let z : ◌≡◌ {A = ℕ} 0 1 = cc in absurd (omega arith)
-  trials_agree_lem held t b a a' h h' (at_once e) (spent e' r d) = let z : ◌≡◌ {A = ℕ} 0 1 = cc in absurd (omega arith)
-  trials_agree_lem held t b a a' h h' (by_the_run e r d) (at_once e') = let z : ◌≡◌ {A = ℕ} 0 1 = cc in absurd (omega arith)
+  trials_agree_lem held t b a a' h h' (at_once e) (by_the_run e' r d) = absurd (cc)
+  trials_agree_lem held t b a a' h h' (at_once e) (by_the_search e' r d) = absurd (cc)
+  trials_agree_lem held t b a a' h h' (at_once e) (spent e' r d) = absurd (cc)
+  trials_agree_lem held t b a a' h h' (by_the_run e r d) (at_once e') = absurd (cc)
   trials_agree_lem held t b a a' h h' (by_the_run {v} {held'} {left} {p} e r d) (by_the_run {v = v'} {held' = held''} {left = left'} {p = p'} e' r' d') =
       let k : gave held' left p ≡ gave held'' left' p' = runs_agree _ _ _ r r' in
       let l : left ≡ left' = cc in
@@ -99,14 +99,14 @@ module _ (stored : Storing) where
       (λ i. record { verdict = z i; expansions = half b - l i; entries = 0 }, cc)
   trials_agree_lem held t b a a' h h' (by_the_run e r d) (by_the_search e' r' d') = absurd (gave_and_stopped _ _ _ _ _ r r')
   trials_agree_lem held t b a a' h h' (by_the_run e r d) (spent e' r' d') = absurd (gave_and_stopped _ _ _ _ _ r r')
-  trials_agree_lem held t b a a' h h' (by_the_search e r d) (at_once e') = let z : ◌≡◌ {A = ℕ} 0 1 = cc in absurd (omega arith)
+  trials_agree_lem held t b a a' h h' (by_the_search e r d) (at_once e') = absurd (cc)
   trials_agree_lem held t b a a' h h' (by_the_search e r d) (by_the_run e' r' d') = absurd (gave_and_stopped _ _ _ _ _ r' r)
   trials_agree_lem held t b a a' h h' (by_the_search {held'} e r d) (by_the_search {held' = held''} e' r' d') =
       let k : stopped held' ≡ stopped held'' = runs_agree _ _ _ r r' in
       let l : held' ≡ held'' = cc in
       (refl, ap (λ (x : Held). stored x (code t) (pair_of (minimax t))) l)
   trials_agree_lem held t b a a' h h' (by_the_search e r d) (spent e' r' d') = absurd (omega arith)
-  trials_agree_lem held t b a a' h h' (spent e r d) (at_once e') = let z : ◌≡◌ {A = ℕ} 0 1 = cc in absurd (omega arith)
+  trials_agree_lem held t b a a' h h' (spent e r d) (at_once e') = absurd (cc)
   trials_agree_lem held t b a a' h h' (spent e r d) (by_the_run e' r' d') = absurd (gave_and_stopped _ _ _ _ _ r' r)
   trials_agree_lem held t b a a' h h' (spent e r d) (by_the_search e' r' d') = absurd (omega arith)
   trials_agree_lem held t b a a' h h' (spent {held'} e r d) (spent {held' = held''} e' r' d') =
@@ -126,7 +126,7 @@ module _ (stored : Storing) where
   still_unspent : (held : Held) (t : Tree) (b b' : ℕ) (a a' : Answer) (h h' : Held) → b ≤ b' →
       Trial stored held t b a h → Trial stored held t b' a' h' → (a.verdict ≡ IsSpent → ⊥) → a'.verdict ≡ IsSpent → ⊥
   still_unspent held t b b' a a' h h' l (at_once e) y n z =
-      let k = (spent_run held t b' a' h' y z).0 in let x : ◌≡◌ {A = ℕ} 0 1 = cc in omega arith
+      let k = (spent_run held t b' a' h' y z).0 in cc
   still_unspent held t b b' a a' h h' l (by_the_run {left = left} {p} e r d) y n z =
       let k = (spent_run held t b' a' h' y z).2 in
       let m = runs_last held (half b) (half b' - half b) t h left p r in
@@ -141,10 +141,10 @@ both_right : (v w : Verdict) (t : Tree) → (v ≡ IsWon → minimax t ≡ true)
     (w ≡ IsWon → minimax t ≡ true) → (w ≡ IsNotWon → minimax t ≡ false) → (v ≡ IsSpent → ⊥) → (w ≡ IsSpent → ⊥) → w ≡ v
 both_right IsWon IsWon t a b c d x y = refl
 both_right IsWon IsNotWon t a b c d x y =
-    let e = a refl in let f = d refl in let z : ◌≡◌ {A = ℕ} 0 1 = cc in absurd (omega arith)
+    let e = a refl in let f = d refl in absurd (cc)
 both_right IsWon IsSpent t a b c d x y = absurd (y refl)
 both_right IsNotWon IsWon t a b c d x y =
-    let e = b refl in let f = c refl in let z : ◌≡◌ {A = ℕ} 0 1 = cc in absurd (omega arith)
+    let e = b refl in let f = c refl in absurd (cc)
 both_right IsNotWon IsNotWon t a b c d x y = refl
 both_right IsNotWon IsSpent t a b c d x y = absurd (y refl)
 both_right IsSpent w t a b c d x y = absurd (x refl)

@@ -22,7 +22,7 @@ formed-decided p e₀ = by (form p.proof p.disproof p.formed)
     go : (x y : Bool) → p.proof < top → p.disproof < top → leb top p.proof ≡ x → leb top p.disproof ≡ y → (x || y) ≡ true → (p ≡ won) ⊎ (p ≡ not_won)
     go true y l k i j e = let z : top ≤ p.proof = leb-true top p.proof i in absurd (omega arith)
     go false true l k i j e = let z : top ≤ p.disproof = leb-true top p.disproof j in absurd (omega arith)
-    go false false l k i j e = let z : ◌≡◌ {A = ℕ} 0 1 = cc in absurd (omega arith)
+    go false false l k i j e = absurd (cc)
 
     by : Form p.proof p.disproof → (p ≡ won) ⊎ (p ≡ not_won)
     by (is_won a b) = inl (same_pair p won a b)

@@ -20,7 +20,7 @@ use Rattle.search_laws.proofs.Numbers.{Fits, Fit, some_yes, some_no, all_yes, al
 use Rattle.search_laws.proofs.Taking.{Low, below_top, chosen_in, thresholds-low}
 
 unequal_some : (p : Pair) → ◌≡◌ {A = Option Pair} None (Some p) → ⊥
-unequal_some p e = let z : ◌≡◌ {A = ℕ} 0 1 = cc in omega arith
+unequal_some p e = cc
 
 same_some : (o : Option Pair) (p q : Pair) → o ≡ Some p → o ≡ Some q → p ≡ q
 same_some o p q a b = cc
@@ -111,12 +111,12 @@ module _ (positions : Tree → Type 0) (ranging : Ranging positions) (stored : S
       record {
         agrees = (λ z. refl, λ z. let y = proof-of z in absurd (omega arith));
         ended_won = λ z. refl;
-        ended_not = λ e. let z : ◌≡◌ {A = ℕ} 0 1 = cc in absurd (omega arith);
+        ended_not = λ e. absurd (cc);
       }
   fits_listed held (node NotWon r c m) s i =
       record {
         agrees = (λ z. let y = proof-of z in absurd (omega arith), λ z. refl);
-        ended_won = λ e. let z : ◌≡◌ {A = ℕ} 0 1 = cc in absurd (omega arith);
+        ended_won = λ e. absurd (cc);
         ended_not = λ z. refl;
       }
   fits_listed held (node Attacker r c m) s i = fits-active (node Attacker r c m) _ tt (fresh_agrees held (node Attacker r c m) s i (held c) refl)

@@ -23,8 +23,8 @@ same_numbers p q = go (eqb p.proof q.proof) (eqb p.disproof q.disproof) refl ref
     go : (x y : Bool) → eqb p.proof q.proof ≡ x → eqb p.disproof q.disproof ≡ y → (x && y) ≡ true →
         (p.proof ≡ q.proof) × (p.disproof ≡ q.disproof)
     go true true a b e = (eqb-true p.proof q.proof a, eqb-true p.disproof q.disproof b)
-    go true false a b e = let z : ◌≡◌ {A = ℕ} 0 1 = cc in absurd (omega arith)
-    go false y a b e = let z : ◌≡◌ {A = ℕ} 0 1 = cc in absurd (omega arith)
+    go true false a b e = absurd (cc)
+    go false y a b e = absurd (cc)
 
 -- a decided pair that is right says what is right
 decided_says : (t : Tree) (p : Pair) (v : Verdict) → Agrees t p → decided p ≡ Some v → Says v t
@@ -33,11 +33,11 @@ decided_says t p v a = go (same p won) (same p not_won) refl refl
     go : (x y : Bool) → same p won ≡ x → same p not_won ≡ y → cond x (Some IsWon) (cond y (Some IsNotWon) None) ≡ Some v → Says v t
     go true y i j e = let z : IsWon ≡ v = cc in subst (λ (w : Verdict). Says w t) z (a.0 (same_pair p won (same_numbers p won i).0 (same_numbers p won i).1))
     go false true i j e = let z : IsNotWon ≡ v = cc in subst (λ (w : Verdict). Says w t) z (a.1 (same_pair p not_won (same_numbers p not_won j).0 (same_numbers p not_won j).1))
-    go false false i j e = let z : ◌≡◌ {A = ℕ} 0 1 = cc in absurd (omega arith)
+    go false false i j e = absurd (cc)
 
 in_says : (t : Tree) (v : Verdict) (o : Option Pair) → ((p : Pair) → o ≡ Some p → Agrees t p) → decided_in o ≡ Some v → Says v t
 in_says t v (Some p) h e = decided_says t p v (h p refl) e
-in_says t v None h e = let z : ◌≡◌ {A = ℕ} 0 1 = cc in absurd (omega arith)
+in_says t v None h e = absurd (cc)
 
 known_says : (positions : Tree → Type 0) (held : Held) (t : Tree) (v : Verdict) → Sound positions held → positions t → known held t ≡ Some v → Says v t
 unfolding minimax some_won all_won
@@ -50,14 +50,14 @@ known_says positions held (node Defender r c m) v s i e = in_says (node Defender
 
 -- a position with nothing known has not ended
 unknown_active : (held : Held) (t : Tree) → known held t ≡ None → Active (state t)
-unknown_active held (node Won r c m) e = let z : ◌≡◌ {A = ℕ} 0 1 = cc in absurd (omega arith)
-unknown_active held (node NotWon r c m) e = let z : ◌≡◌ {A = ℕ} 0 1 = cc in absurd (omega arith)
+unknown_active held (node Won r c m) e = absurd (cc)
+unknown_active held (node NotWon r c m) e = absurd (cc)
 unknown_active held (node Attacker r c m) e = tt
 unknown_active held (node Defender r c m) e = tt
 
 pub says : (v : Verdict) (t : Tree) → Says v t → (v ≡ IsWon → minimax t ≡ true) × (v ≡ IsNotWon → minimax t ≡ false)
-says IsWon t h = (λ _. h, λ e. let z : ◌≡◌ {A = ℕ} 0 1 = cc in absurd (omega arith))
-says IsNotWon t h = (λ e. let z : ◌≡◌ {A = ℕ} 0 1 = cc in absurd (omega arith), λ _. h)
+says IsWon t h = (λ _. h, λ e. absurd (cc))
+says IsNotWon t h = (λ e. absurd (cc), λ _. h)
 says IsSpent t h = elim h [ ]
 
 value_says : (t : Tree) (b : Bool) → minimax t ≡ b → Says (verdict_of b) t
@@ -82,8 +82,8 @@ module _ (positions : Tree → Type 0) (ranging : Ranging positions) (stored : S
       (sound_stored positions ranging stored keeping held' t (pair_of (minimax t)) g i (value-agrees t (minimax t) refl), k.0, k.1)
   trials_are_right_lem held t b a held' s i (spent e r n) = (
     (runs_are_right positions ranging stored keeping held (half b) t held' s i (unknown_active held t e)).0 r,
-    λ z. let y : ◌≡◌ {A = ℕ} 0 1 = cc in absurd (omega arith),
-    λ z. let y : ◌≡◌ {A = ℕ} 0 1 = cc in absurd (omega arith),
+    λ z. absurd (cc),
+    λ z. absurd (cc),
   )
 
 -- what is decided or known is never `spent`
@@ -91,23 +91,23 @@ pub never-spent : (p : Pair) → decided p ≡ Some IsSpent → ⊥
 never-spent p = go (same p won) (same p not_won)
   where
     go : (x y : Bool) → cond x (Some IsWon) (cond y (Some IsNotWon) None) ≡ Some IsSpent → ⊥
-    go true y e = let z : ◌≡◌ {A = ℕ} 0 1 = cc in omega arith
-    go false true e = let z : ◌≡◌ {A = ℕ} 0 1 = cc in omega arith
-    go false false e = let z : ◌≡◌ {A = ℕ} 0 1 = cc in omega arith
+    go true y e = cc
+    go false true e = cc
+    go false false e = cc
 
 pub never_in : (o : Option Pair) → decided_in o ≡ Some IsSpent → ⊥
 never_in (Some p) e = never-spent p e
-never_in None e = let z : ◌≡◌ {A = ℕ} 0 1 = cc in omega arith
+never_in None e = cc
 
 pub never-known : (held : Held) (t : Tree) → known held t ≡ Some IsSpent → ⊥
-never-known held (node Won r c m) e = let z : ◌≡◌ {A = ℕ} 0 1 = cc in omega arith
-never-known held (node NotWon r c m) e = let z : ◌≡◌ {A = ℕ} 0 1 = cc in omega arith
+never-known held (node Won r c m) e = cc
+never-known held (node NotWon r c m) e = cc
 never-known held (node Attacker r c m) e = never_in (held c) e
 never-known held (node Defender r c m) e = never_in (held c) e
 
 pub never-value : (b : Bool) → verdict_of b ≡ IsSpent → ⊥
-never-value true e = let z : ◌≡◌ {A = ℕ} 0 1 = cc in omega arith
-never-value false e = let z : ◌≡◌ {A = ℕ} 0 1 = cc in omega arith
+never-value true e = cc
+never-value false e = cc
 
 pub spent-is-meant : (stored : Storing) → SpentIsMeant stored
 spent-is-meant stored held t b a held' (at_once {v} e) z = absurd (never-known held t (e ∙ ap Some z))

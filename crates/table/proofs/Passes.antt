@@ -43,7 +43,7 @@ capped_push ns n =
 -- the first place of a new least
 pub first_new : (ns : List ℕ) (n : ℕ) → (ns ≡ []) ⊎ (n < least ns) → first n (ns ++ (n ∷ [])) ≡ length ns
 first_new [] n h = rw (eq-eqb n n refl)
-first_new (k ∷ ns) n (inl e) = let z : ◌≡◌ {A = ℕ} 0 1 = cc in absurd (omega arith)
+first_new (k ∷ ns) n (inl e) = absurd (cc)
 first_new (k ∷ ns) n (inr h) = rw (ne_eqb k n (λ e. omega arith)) (ap suc (first_new ns n (inr (omega arith))))
 
 -- the first place of an old one
@@ -194,7 +194,7 @@ pub pair-numbers : (s : Side) (ps : List Pair) (t : Tally) (r : ℕ × ℕ) → 
     → (r.0 ≡ (pair_at s ps).proof) × (r.1 ≡ (pair_at s ps).disproof)
 pair-numbers Attacker ps t r h (inl e) =
     (ap (λ (x : ℕ × ℕ). x.0) e.1 ∙ h.lowest, ap (λ (x : ℕ × ℕ). x.1) e.1 ∙ h.all)
-pair-numbers Attacker ps t r h (inr e) = let n = e.0 in let z : ◌≡◌ {A = ℕ} 0 1 = cc in absurd (omega arith)
-pair-numbers Defender ps t r h (inl e) = let n = e.0 in let z : ◌≡◌ {A = ℕ} 0 1 = cc in absurd (omega arith)
+pair-numbers Attacker ps t r h (inr e) = let n = e.0 in absurd (cc)
+pair-numbers Defender ps t r h (inl e) = let n = e.0 in absurd (cc)
 pair-numbers Defender ps t r h (inr e) =
     (ap (λ (x : ℕ × ℕ). x.0) e.1 ∙ h.all, ap (λ (x : ℕ × ℕ). x.1) e.1 ∙ h.lowest)

@@ -16,7 +16,7 @@ passed false t = elim t [ ]
 
 passes : (b : Bool) → b ≡ true → T b
 passes true e = tt
-passes false e = let z : ◌≡◌ {A = ℕ} 0 1 = cc in absurd (omega arith)
+passes false e = absurd (cc)
 
 pub form : (p d : ℕ) → T (well p d) → Form p d
 form p d t = first (or_cases _ _ (passed (well p d) t))

@@ -1,5 +1,5 @@
 -- Where all successors have ended, all moves are tried at once.
-use Rattle.std.proofs.Common.{◌≡◌, ℕ, Bool, true, false, ◌&&◌, List, [], ◌∷◌, refl, ap, arith}
+use Rattle.std.proofs.Common.{◌≡◌, ℕ, Bool, true, false, ◌&&◌, List, [], ◌∷◌, refl, ap}
 use Rattle.std.proofs.lemmas.Bool.{and_parts}
 use Rattle.game.specs.Tree.{Tree, Moves, none, move, state, code, ended}
 use Rattle.game.specs.declared.state.State.{State}

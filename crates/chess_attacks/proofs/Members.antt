@@ -41,7 +41,7 @@ pub decides-any : (n : ℕ) (p : ℕ → Bool) → Decides (any n p) ((k : ℕ) 
 decides-any n p = Decides-below_or p (λ k. p k ≡ true) (λ n. any n p) (λ k. (λ e. e, λ e. e)) refl (λ n. refl) n
 
 -- one more number, and the same test over a list of numbers
-range_more : (n a : ℕ) → range_with_len a (suc n) ≡ range_with_len a n ++ (a + n) ∷ []
+pub range_more : (n a : ℕ) → range_with_len a (suc n) ≡ range_with_len a n ++ (a + n) ∷ []
 range_more zero a = let e : a ≡ a + 0 = omega arith in ap (λ x. x ∷ []) e
 range_more (suc n) a =
     let e : a + 1 + n ≡ a + suc n = omega arith in

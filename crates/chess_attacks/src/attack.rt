@@ -7,8 +7,8 @@ use crate::look::{leap_attack, line_attack};
 use crate::men::{Board, Kind, Side, holds_man};
 use board::Square;
 
-// Kept a call: where it is inlined, the search for a king takes longer.
 /// Whether a man of the side attacks the square.
+// Not inlined: inlined, a trial takes longer.
 #[inline(never)]
 pub fn attacked(board: &Board, square: Square, by: Side) -> bool
     ensures exact { result ≡ attacked board.now square.number by }

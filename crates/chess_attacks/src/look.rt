@@ -48,13 +48,9 @@ fn leaps_from(
 ) -> bool
     ensures { result ≡ leapt board.now by square.number straight aslant }
 {
-    let Some(corner) = beside(square, straight) else {
-        return false;
-    };
-    let Some(from) = beside(corner, aslant) else {
-        return false;
-    };
-    holds_man(man_on(board, from), by, Kind::Knight)
+    beside(square, straight)
+        .and_then(|corner| beside(corner, aslant))
+        .is_some_and(|from| holds_man(man_on(board, from), by, Kind::Knight))
 }
 
 pub(crate) fn line_attack(board: &Board, square: Square, by: Side) -> bool

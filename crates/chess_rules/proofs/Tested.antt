@@ -1,5 +1,7 @@
 -- The test of a position's rules tells what the rules say.
-use Rattle.std.proofs.Common.{◌≡◌, ℕ, ◌+◌, ◌<◌, ◌≤◌, Bool, true, false, cond, not, ◌&&◌, eqb, ltb, leb, length, Some, None, Decides, Option, sym, refl, ap, ◌∙◌, add-one}
+use Rattle.std.proofs.Common.{◌≡◌, ℕ, zero, suc, ◌+◌, [], ◌∷◌, zero-add, ◌<◌, ◌≤◌, Bool, true, false, cond, not, ◌&&◌, eqb, ltb, leb, length, Some, None, Decides, Option, sym, refl, ap, ◌∙◌, add-one}
+use Rattle.std.specs.List.{list_all, range_with_len}
+use Rattle.std.proofs.lemmas.List.Folds.{list_all-append}
 use Rattle.std.proofs.lemmas.Bool.{and_parts, and_from, eqb-true, eq-eqb, leb-true, le-leb, ltb-true, lt-ltb, false≢true}
 use Rattle.std.proofs.lemmas.Bool.Decides.{Decides-below_and, Decides-not}
 use Rattle.board.specs.Squares.{row}
@@ -11,6 +13,7 @@ use Rattle.chess_attacks.specs.Men.{Squares, on, other, same_side, is_pawn, man_
 use Rattle.chess_attacks.specs.Commands.{Checked}
 use Rattle.chess_attacks.specs.Lists.{checked}
 use Rattle.chess_attacks.proofs.Sides.{side-true, side_same, pawn_kind}
+use Rattle.chess_attacks.proofs.Members.{range_more}
 use Rattle.chess_attacks.proofs.Meaning.{checked_means}
 use Rattle.chess_moves.specs.declared.diagram.Diagram.{Diagram}
 use Rattle.chess_moves.specs.Moves.{empty, passing_of}
@@ -54,20 +57,19 @@ module _ (b : Squares) where
   unfolding pawns_inner
   pawns_means n = Decides-below_and (inner b) Inner (pawns_inner b) inner_means refl (λ n. refl) n
 
-  pub inner_none : (n : ℕ) → n ≡ 0 → pawns_inner b n ≡ true
-  unfolding pawns_inner
-  inner_none n z = rw z refl
+  turned : (x y : Bool) → (x && (y && true)) ≡ (y && x)
+  turned true true = refl
+  turned true false = refl
+  turned false true = refl
+  turned false false = refl
 
-  pub inner_more : (n s next : ℕ) → s ≡ n → next ≡ n + 1 → pawns_inner b n ≡ true → inner b s ≡ true → pawns_inner b next ≡ true
+  -- the same test over a list of numbers
+  pub inner_listed : (n : ℕ) → list_all (inner b) (range_with_len 0 n) ≡ pawns_inner b n
   unfolding pawns_inner
-  inner_more n s next same z h k = rw (z, add-one) (and_from (inner b n) (pawns_inner b n) (ap (inner b) (sym same) ∙ k) h)
-
-  pub inner_not : (n s : ℕ) → s < n → inner b s ≡ false → pawns_inner b n ≡ false
-  inner_not n s l h = go (pawns_inner b n) refl
-    where
-      go : (x : Bool) → pawns_inner b n ≡ x → x ≡ false
-      go true e = absurd (false≢true (sym h ∙ (inner_means s).1 ((pawns_means n).0 e s l)))
-      go false e = refl
+  inner_listed zero = refl
+  inner_listed (suc n) =
+      ap (list_all (inner b)) (range_more n 0) ∙ list_all-append (inner b) (range_with_len 0 n) ((0 + n) ∷ [])
+      ∙ turned (list_all (inner b) (range_with_len 0 n)) (inner b (0 + n)) ∙ (λ i. inner b (zero-add n i) && inner_listed n i)
 
 -- the en passant square
 module _ (b : Squares) (a : Side) where

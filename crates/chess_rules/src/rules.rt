@@ -58,13 +58,7 @@ fn is_inner(board: &Board, square: Square) -> bool
 fn are_pawns_inner(board: &Board) -> bool
     ensures { result ≡ pawns_inner board.now 64 }
 {
-    // a loop: `all` would need a lemma more and be no plainer
-    for square in Square::all() {
-        if !is_inner(board, square) {
-            return false;
-        }
-    }
-    true
+    Square::all().all(|square| is_inner(board, square))
 }
 
 #[tactic(auto, unfolding(crate::specs::Lawful::rules_kept))]

@@ -62,6 +62,7 @@ fn rest(attacker: Side, plies: u8, diagram: &Diagram) -> u64
 pub(crate) fn code(attacker: Side, plies: u8, diagram: &Diagram) -> [u64; 5]
     ensures { result ≡ code attacker plies diagram.now }
 {
+    // the four words of the board, and one of another kind: mapped over their first squares they would be no plainer
     [
         word(&diagram.board, 0),
         word(&diagram.board, 16),

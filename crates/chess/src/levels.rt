@@ -24,6 +24,7 @@ impl Level {
         if self.problem.plies == 0 {
             return None;
         }
+        // lent where it is kept and made where it is not, as in the impl of `Position`: one function that lends either would lend what it made
         match &self.list {
             Some(list) => list.get(i),
             None => self.problem.position.moves().get(i),

@@ -48,7 +48,8 @@ impl Position for Level {
         Ok(level)
     }
 
-    // Here and below the list is lent where it is kept and made where it is not: no reference can stand for both.
+    // Here and below the list is lent where it is kept and made where it is not: one function that lends either would lend what it made,
+    // and one that is handed what to ask of the list would be no plainer.
 
     fn state(&self) -> State {
         match &self.list {

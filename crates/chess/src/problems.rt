@@ -107,6 +107,7 @@ impl Problem {
         ensures plies { result.plies ≡ self.now.plies - 1 }
     {
         let diagram = chess_moves::play(&self.position.diagram, step);
+        // copied by name: a struct with a ghost field takes no `..`
         Problem {
             position: Position { diagram },
             attacker: self.attacker,

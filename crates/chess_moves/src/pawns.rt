@@ -52,10 +52,13 @@ impl Promotion {
 pub(crate) fn becoming(man: Man, promotion: Option<Promotion>) -> Man
     ensures { result ≡ becoming man promotion }
 {
-    promotion.map_or(man, |promotion| Man {
-        kind: promotion.kind(),
-        ..man
-    })
+    promotion.map_or(
+        man,
+        |promotion| Man {
+            kind: promotion.kind(),
+            ..man
+        },
+    )
 }
 
 // Whether the man is a pawn that becomes another man on the square.

@@ -5,7 +5,8 @@ ghost use Rattle.chess_moves.specs.Moves.{listed};
 use crate::list::MoveList;
 use crate::step::Move;
 
-// What a list promises in the words of moves; the bodies are the vector's.
+// What a list promises in the words of moves; the bodies are the vector's. One type for moves and for Othello's squares would promise
+// neither in its words, so these few lines stand in both crates.
 impl MoveList {
     /// How many moves there are.
     pub fn len(&self) -> usize

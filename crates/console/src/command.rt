@@ -1,11 +1,7 @@
 use crate::words::{Unknown, cut, number};
+use search::RECORDS;
+use solution::BYTES;
 use std::fmt;
-
-/// How many pair records are lent to a call that does not say: as many as a call can use.
-pub const RECORDS: usize = 6_144;
-
-/// How many bytes of a buffer are lent to a solution that does not say: room for 4,096 lines.
-pub const BUFFER: usize = 32_768;
 
 /// Which move is meant: by its number, or by its text without the closing blanks.
 #[derive(Clone, Copy)]
@@ -68,14 +64,15 @@ impl fmt::Display for Policy {
     }
 }
 
-/// How many pair records and how many bytes of a buffer are lent to a call.
+/// How many pair records and how many bytes of a buffer are lent to a call. Where a line does not say, it is as many records as a call can
+/// use, and the longest buffer, which has room for 4,096 lines.
 #[derive(Clone, Copy, Default)]
 pub struct Loan {
     pub records: usize,
     pub buffer: usize,
 }
 
-/// A call of the tester, with its moves as the line names them.
+/// A call of the tester, with its moves as the line names them: by number or by text, where the tester's own `Call` has numbers alone.
 #[derive(Clone, Copy)]
 pub enum Request<'a> {
     Set { aim: u32, text: &'a [u8] },
@@ -153,7 +150,7 @@ fn lent(rest: Option<&[u8]>) -> Result<Loan, Unknown<'_>> {
     let Some(rest) = rest else {
         return Ok(Loan {
             records: RECORDS,
-            buffer: BUFFER,
+            buffer: BYTES,
         });
     };
     let (buffer, records) = cut(rest);

@@ -1,6 +1,8 @@
-use crate::command::{BUFFER, Question, RECORDS};
+use crate::command::Question;
 use crate::picture::Picture;
 use crate::{calls, show};
+use search::RECORDS;
+use solution::BYTES;
 use std::alloc::{AllocError, Global};
 use std::io;
 use table::{Pair, Table};
@@ -18,7 +20,7 @@ impl Desk {
     pub fn new(heap: Global) -> Result<Desk, AllocError> {
         Ok(Desk {
             records: vec![in heap; Pair::FRESH; RECORDS]?,
-            buffer: vec![in heap; b' '; BUFFER + 8]?,
+            buffer: vec![in heap; b' '; BYTES + 8]?,
         })
     }
 

@@ -5,6 +5,7 @@ ghost use Rattle.othello.specs.Endings.{reached};
 use crate::Position;
 use board::Square;
 
+// What stays is copied by name: a struct with a ghost field takes no `..`.
 impl Position {
     /// The position after a disc of the mover was placed on the square, or none where that is not legal.
     pub(crate) fn place(&self, square: Square) -> Option<Position>

@@ -8,7 +8,8 @@ use crate::{Diagram, Placements, Side, Turn};
 use arrayvec::ArrayVec;
 use board::Square;
 
-// What a list promises in the words of squares; the bodies are the vector's.
+// What a list promises in the words of squares; the bodies are the vector's. One type for squares and for the moves of chess would promise
+// neither in its words, so these few lines stand in both crates.
 impl Placements {
     /// How many squares there are.
     pub fn count(&self) -> usize

@@ -30,8 +30,8 @@ fn accept<G: Game>(game: &G, intended: usize, bytes: usize) -> Result<(), Declin
     Ok(())
 }
 
-// It takes what `solve` takes and makes a solver and a page of it: written out in `solve`, what the solver's loans hold at the end was not found.
 /// Makes the solution of the current position, and writes its lines.
+// It takes what `solve` takes: written out there, the proof did not close, since what the solver's loans hold at the end was not found.
 fn write_solution<G: Game, T: Table>(
     game: &mut G,
     table: &mut T,

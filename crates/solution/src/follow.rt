@@ -80,7 +80,7 @@ impl<'g, 't, 'r, G: Game, T: Table> Solver<'g, 't, 'r, G, T> {
         ensures stays { Stays G.current G.earlier self.old self.new }
         ensures follows { (i : Option ℕ) → Followed T.Table.stored self.old.budget.amount ply.number i (G.current self.old.game.now) (T.held self.old.table.now) page.old self.old.sum result (T.held self.new.table.now) page.new self.new.sum }
     {
-        // the loop counts moves: it plays number i
+        // a game's moves are numbers, in the trait and in the calls: the number is what is played
         for i in 0..self.game.count() {
             page.write_move(self.game, ply, Sign::Reply, i)?;
             self.follow_move(page, ply, i)?;

@@ -4,6 +4,7 @@ ghost use Rattle.std.specs.Prelude.{◌≡◌, ◌+◌, ◌<◌};
 #[derive(Clone, Copy, PartialEq, Eq, Debug)]
 pub(crate) struct Ply {
     pub number: u8,
+    ghost from_one: { 0 < number },
     ghost two_digits: { number < 100 },
 }
 
@@ -12,7 +13,7 @@ impl Ply {
     pub const FIRST: Ply = Ply { number: 1 };
 
     /// The ply that comes next.
-    pub fn next(self) -> Ply
+    pub(crate) fn next(self) -> Ply
         requires { self.number < 99 }
         ensures { result.number ≡ self.number + 1 }
     {

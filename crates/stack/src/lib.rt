@@ -5,6 +5,7 @@ ghost use Rattle.std.specs.Prelude.{◌≤◌, length};
 mod methods;
 
 /// A stack of entries of any type, in a slice that is lent to it: the first `len` entries of the slice, the top one last.
+// The slice with a length beside it is a form that the project's rules fix: the stack lies in a slice that is lent.
 #[derive(Drop)]
 pub struct Stack<'a, T> {
     slots: &'a mut [T],

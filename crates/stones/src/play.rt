@@ -74,6 +74,7 @@ impl Position for Pile {
     }
 
     fn code(&self) -> [u64; 5] {
+        // the side as a number, for the reason at `Pile`
         [self.left as u64, self.attackers as u64, 0, 0, 0]
     }
 

@@ -38,6 +38,7 @@ impl From<Result<(), Decline>> for Reply {
     }
 }
 
+// A trial's and a solution's reply differ in their variant, so each has its own.
 /// The reply to a trial.
 impl From<Result<Answer, Decline>> for Reply {
     ghost from_gives = { λ outcome reply. reply ≡ trial_reply outcome };

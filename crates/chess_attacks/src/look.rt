@@ -13,6 +13,9 @@ pub fn beside(square: Square, direction: Direction) -> Option<Square>
     square.beyond(direction, 1)
 }
 
+// Board, square and side are plain parameters here and in `attack`: a struct of the three would be made anew for each square and be no
+// plainer.
+
 // Whether the first man met from the square in a direction is of the side and commands the square.
 fn strikes(board: &Board, square: Square, direction: Direction, by: Side) -> bool
     ensures { result ≡ struck board.now direction by square.number 0 7 }

@@ -8,6 +8,10 @@ use crate::step::Move;
 use board::Square;
 use chess_attacks::{Board, Man, Side, beside, man_on};
 
+// A man and its move are plain parameters here and in `pawns`: other functions take one of the two alone, and a struct of both would be no
+// plainer.
+
+// The board after the man has gone, and become what it becomes.
 fn moved(board: &Board, man: Man, step: Move) -> Board
     ensures { result ≡ moved board.now man step.from.number step.to.number step.promotion }
 {

@@ -5,6 +5,9 @@ ghost use Rattle.search_laws.specs.Run.{listed};
 use game::{Game, State};
 use table::{Pair, Table};
 
+// The game and the table are two parameters here and in the run: which of them is lent to be changed differs from function to function, and
+// a struct of both would lend in one way.
+
 // The pair that is known of the game's position: decided if it has ended, else the table's, if it holds one.
 pub(crate) fn known_pair<G: Game, T: Table>(game: &G, table: &T) -> Option<Pair>
     ensures { result ≡ (if ended (state (G.current game.now)) then Some (listed (T.held table.now) (G.current game.now)) else T.held table.now (code (G.current game.now))) }

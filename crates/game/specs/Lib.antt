@@ -2,4 +2,5 @@ pub mod Tree
 pub mod States
 pub mod Declines
 pub mod Rules
+pub mod Places
 pub mod Paths

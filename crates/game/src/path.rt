@@ -1,8 +1,13 @@
+ghost use Rattle.std.specs.Prelude.{◌≡◌, length};
+ghost use Rattle.game.specs.Places.{held};
+
 use arrayvec::ArrayVec;
 
 /// A path of at most 33 positions: the current one, and the earlier ones, the latest last.
+// The vector fills unused places with a default, which an `Option` has for every type. No place that is used is empty.
 #[derive(Drop)]
 pub struct Path<P> {
     pub(crate) current: P,
-    pub(crate) earlier: ArrayVec<P, 32>,
+    pub(crate) earlier: ArrayVec<Option<P>, 32>,
+    ghost none_empty: { length (held earlier.items) ≡ length earlier.items },
 }

@@ -5,8 +5,9 @@ use crate::Path;
 use arrayvec::ArrayVec;
 use std::mem;
 
-impl<P: Default + Drop> Path<P> {
+impl<P: Drop> Path<P> {
     /// A path of one position.
+    #[tactic(auto, unfolding(crate::specs::Places::held))]
     pub fn new(current: P) -> Path<P>
         ensures at { result.current ≡ current }
         ensures alone { before result ≡ [] }
@@ -46,7 +47,8 @@ impl<P: Default + Drop> Path<P> {
         if self.earlier.is_full() {
             return Err(next);
         }
-        self.earlier.push(mem::replace(&mut self.current, next));
+        self.earlier
+            .push(Some(mem::replace(&mut self.current, next)));
         Ok(())
     }
 
@@ -59,7 +61,7 @@ impl<P: Default + Drop> Path<P> {
             (λ p. (before self.old ≡ self.new.current ∷ before self.new)
             × (p ≡ self.old.current)) }
     {
-        let latest = self.earlier.pop()?;
+        let latest = self.earlier.pop()??;
         Some(mem::replace(&mut self.current, latest))
     }
 }

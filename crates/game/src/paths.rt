@@ -47,8 +47,8 @@ impl<P: Drop> Path<P> {
         if self.earlier.is_full() {
             return Err(next);
         }
-        self.earlier
-            .push(Some(mem::replace(&mut self.current, next)));
+        let left = mem::replace(&mut self.current, next);
+        self.earlier.push(Some(left));
         Ok(())
     }
 

@@ -5,9 +5,9 @@ use Rattle.game.specs.Paths.{before}
 use Rattle.game.proofs.Places.{as_many, pushed, latest}
 use Rattle.game.proofs.path.Path.advance.Goals as goal
 
-pub invariant_of-self-2 : goal.invariant_of-self-2
-invariant_of-self-2 g c = record {
-  none_empty = pushed c.args.self.now.earlier.items c.push.new.self.items c.replace.result c.push.ensures.items c.args.self.now.none_empty;
+pub invariant_of-self : goal.invariant_of-self
+invariant_of-self g c = record {
+  none_empty = pushed c.args.self.now.earlier.items c.push.new.self.items c.replace-left.result c.push.ensures.items c.args.self.now.none_empty;
 }
 
 pub returns : goal.returns
@@ -18,6 +18,6 @@ returns g c =
     let fits : length os ≤ 32 = c.is_full.ensures.fits in
     let room : length os ≢ 32 = λ e. let z : (length os == 32) ≡ true = eq-eqb (length os) 32 e in false≢true (sym c.if-is_full.false ∙ full ∙ z) in (
       omega (arith, many, room, fits),
-      c.replace.ensures.after,
-      latest os c.push.new.self.items c.replace.result c.push.ensures.items ∙ ap (λ p. p ∷ before c.args.self.now) c.replace.ensures.value,
+      c.replace-left.ensures.after,
+      latest os c.push.new.self.items c.replace-left.result c.push.ensures.items ∙ ap (λ p. p ∷ before c.args.self.now) c.replace-left.ensures.value,
     )

@@ -5,6 +5,7 @@ use Rattle.std.proofs.ByRecursion.{All-get_or}
 use Rattle.game.specs.Rules.{Rules}
 use Rattle.game.specs.Tree.{Tree, Moves, none, move, nowhere, successors, texts, Reading, next, rank}
 use Rattle.table.specs.Pairs.{Held}
+use Rattle.search.specs.declared.budget.Budget.{Budget}
 use Rattle.search_laws.specs.declared.answer.Verdict.{Verdict}
 use Rattle.search_laws.specs.declared.answer.Verdict.TheVariants as verdict
 use Rattle.search_laws.specs.declared.answer.Answer.{Answer}
@@ -135,6 +136,13 @@ module _ (stored : Storing) (b : ℕ) (held : Held) (m : Moves) (n : ℕ) where
         bound = omega (arith, t.bound);
         holds = subst (λ (q : List Bool). AllTried stored b held m q t.so_far h) (append-nil flags) (subst (λ (q : ℕ). AllTried stored b held m (flags ++ []) q h) s y);
       }
+
+-- a trial of a move, from a position and with a budget that are the same
+pub trial_at : {stored : Storing} {held held' : Held} {t t' : Tree} {b b' : Budget} {a : Answer} (i : ℕ) → t' ≡ t → b' ≡ b
+    → Trial stored held (get_or (next t') i nowhere) b'.amount a held' → Trial stored held (get_or (next t) i nowhere) b.amount a held'
+trial_at {stored = stored} {held = held} {held' = held'} {t = t} {b' = b'} {a = a} i e f r =
+    subst (λ (x : Budget). Trial stored held (get_or (next t) i nowhere) x.amount a held') f
+    (subst (λ (x : Tree). Trial stored held (get_or (next x) i nowhere) b'.amount a held') e r)
 
 -- equal flags say the same trials
 pub same_flags : {stored : Storing} {b : ℕ} {held held' : Held} {m : Moves} {ws vs : List Bool} {n n' : ℕ} → ws ≡ vs

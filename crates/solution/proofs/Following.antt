@@ -4,6 +4,7 @@ use Rattle.std.specs.Result.{IsErrAnd}
 use Rattle.game.specs.declared.state.State.TheVariants.{Attacker, Defender}
 use Rattle.game.specs.Tree.{Tree, Moves, nowhere, state, moves, next, words}
 use Rattle.table.specs.Pairs.{Held}
+use Rattle.search.specs.declared.budget.Budget.{Budget}
 use Rattle.search_laws.specs.Run.{Storing}
 use Rattle.solution_laws.specs.declared.ending.Ending.TheVariants.{Done, Cut}
 use Rattle.solution_laws.specs.Lines.{Line}
@@ -23,6 +24,14 @@ use Rattle.solution.proofs.Attempts.{beyond, beyond-next, beyond_end}
 
 pub chosen_number : {stored : Storing} {b n : ℕ} {held held' : Held} (t : Tree) (i : Option ℕ) (j : ℕ) (ws : List Bool) → AllTried stored b held (moves t) ws n held' → best i ws ≡ Some j → j < length (next t)
 chosen_number t i j ws s o = let g = true_below ws j (best-wins i ws j o) in let n = tried-length s in omega arith
+
+-- what comes after a move, from a position and with a budget that are the same
+pub followed_at : {stored : Storing} {k : ℕ} {t t' : Tree} {b b' : Budget} {held held' : Held} {page page' : Page} {n n' : ℕ} {r : Result (Unit {0}) Stop} (j : ℕ) → t' ≡ t → b' ≡ b
+    → Followed stored b'.amount k None (get_or (next t') j nowhere) held page n r held' page' n'
+    → Followed stored b.amount k None (get_or (next t) j nowhere) held page n r held' page' n'
+followed_at {stored = stored} {k = k} {t = t} {b' = b'} {held = held} {held' = held'} {page = page} {page' = page'} {n = n} {n' = n'} {r = r} j e f z =
+    subst (λ (x : Budget). Followed stored x.amount k None (get_or (next t) j nowhere) held page n r held' page' n') f
+    (subst (λ (x : Tree). Followed stored b'.amount k None (get_or (next x) j nowhere) held page n r held' page' n') e z)
 
 module _ (stored : Storing) (b k : ℕ) (i : Option ℕ) (t : Tree) (held : Held) (page : Page) (n : ℕ) where
   -- nothing is written

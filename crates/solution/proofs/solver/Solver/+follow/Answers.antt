@@ -1,11 +1,10 @@
-use Rattle.std.proofs.Common.{◌≡◌, ◌+◌, ◌<◌, ℕ, [], ◌∷◌, length, get_or, None, Ok, Err, Option, inl, inr, sym, refl, ap, ◌∙◌, subst, arith}
-use Rattle.game.specs.Tree.{Tree, nowhere, moves, next, words}
-use Rattle.search.specs.declared.budget.Budget.{Budget}
+use Rattle.std.proofs.Common.{◌≡◌, ◌<◌, ℕ, [], ◌∷◌, length, get_or, Ok, Err, Option, inl, inr, sym, refl, ap, ◌∙◌, subst, arith}
+use Rattle.game.specs.Tree.{Tree, moves, next, words}
 use Rattle.solution_laws.specs.Solution.{reply_line, won, not_won}
 use Rattle.solution_laws.proofs.Texts.{length-texts}
 use Rattle.solution.specs.Pages.{Writes}
-use Rattle.solution.specs.Following.{Followed, Attacks}
-use Rattle.solution.proofs.Following.{no_line_followed, win_followed, replying_start, replying_cut, replying-last, replying-next, replying_end}
+use Rattle.solution.specs.Following.{Attacks}
+use Rattle.solution.proofs.Following.{no_line_followed, followed_at, win_followed, replying_start, replying_cut, replying-last, replying-next, replying_end}
 use Rattle.solution.proofs.Solvers.{stays-join}
 use Rattle.solution.proofs.solver.Solver.+follow.Goals as goal
 
@@ -31,8 +30,7 @@ follow_best-returns-in-Some-clause-follows g t c =
     let h = g.T.Table.held s.table.now in let h1 = g.T.Table.held s1.table.now in let h2 = g.T.Table.held s2.table.now in
     let j = c.in-Some.chosen in
     let a = subst (λ (o : Option ℕ). Attacks S b k c.args.intended u h c.args.page.now s.sum (Ok o) h1 c.attack.new.page s1.sum) c.in-Some.is c.in_ok-chosen.ensures.attacks in
-    let f1 = subst (λ (x : Budget). Followed S x.amount (k + 1) None (get_or (next (G.current s1.game.now)) j nowhere) h1 c.attack.new.page s1.sum c.follow_move.result h2 c.follow_move.new.page s2.sum) c.attack.ensures.stays.budget c.follow_move.ensures.follows in
-    let f2 = subst (λ (x : Tree). Followed S b (k + 1) None (get_or (next x) j nowhere) h1 c.attack.new.page s1.sum c.follow_move.result h2 c.follow_move.new.page s2.sum) c.attack.ensures.stays.at f1 in
+    let f2 = followed_at j c.attack.ensures.stays.at c.attack.ensures.stays.budget c.follow_move.ensures.follows in
     win_followed S b k c.args.intended u h c.args.page.now s.sum h1 s1.sum c.requires.attacker j h2 c.attack.new.page c.follow_move.new.page s2.sum c.follow_move.result a f2
 
 -- a defender's position
@@ -76,8 +74,7 @@ follow_replies-returns-in_err-follow_move-clause-follows g t c = λ o.
     let e = c.in_err-follow_move.field-0.0 in
     let p2 = c.write_move.new.self in
     let w = subst (λ (x : Tree). Writes (reply_line k (get_or (words x) i []) ∷ []) c.loop-i.page (Ok tt) p2) v.stays.at c.in_ok-write_move.ensures in
-    let f1 = subst (λ (x : Budget). Followed S x.amount (k + 1) None (get_or (next (g.G.Game.current s1.game.now)) i nowhere) h1 p2 s1.sum (Err e) h3 c.follow_move.new.page s3.sum) v.stays.budget c.in_err-follow_move.ensures.follows in
-    let f2 = subst (λ (x : Tree). Followed S b (k + 1) None (get_or (next x) i nowhere) h1 p2 s1.sum (Err e) h3 c.follow_move.new.page s3.sum) v.stays.at f1 in
+    let f2 = followed_at i v.stays.at v.stays.budget c.in_err-follow_move.ensures.follows in
     replying-last S b k u (g.T.Table.held s.table.now) c.args.page.now s.sum i h1 c.loop-i.page s1.sum v.replying low p2 w (Err e) h3 c.follow_move.new.page s3.sum f2
     o e c.from_residual-in_err-follow_move.result c.requires.defender refl c.from_residual-in_err-follow_move.ensures.1
 
@@ -92,8 +89,7 @@ follow_replies-loop-i-preserved g t c =
     let h1 = g.T.Table.held s1.table.now in let h3 = g.T.Table.held s3.table.now in
     let p2 = c.write_move.new.self in
     let w = subst (λ (x : Tree). Writes (reply_line k (get_or (words x) i []) ∷ []) c.loop-i.page (Ok tt) p2) v.stays.at c.in_ok-write_move.ensures in
-    let f1 = subst (λ (x : Budget). Followed S x.amount (k + 1) None (get_or (next (g.G.Game.current s1.game.now)) i nowhere) h1 p2 s1.sum (Ok tt) h3 c.follow_move.new.page s3.sum) v.stays.budget c.in_ok-follow_move.ensures.follows in
-    let f2 = subst (λ (x : Tree). Followed S b (k + 1) None (get_or (next x) i nowhere) h1 p2 s1.sum (Ok tt) h3 c.follow_move.new.page s3.sum) v.stays.at f1 in
+    let f2 = followed_at i v.stays.at v.stays.budget c.in_ok-follow_move.ensures.follows in
     record {
       stays = stays-join v.stays c.follow_move.ensures.stays;
       replying = replying-next S b k u (g.T.Table.held s.table.now) c.args.page.now s.sum i h1 c.loop-i.page s1.sum v.replying low p2 w (Ok tt) h3 c.follow_move.new.page s3.sum f2 refl;

@@ -4,7 +4,6 @@ use Rattle.board.specs.Masks.{member}
 use Rattle.form.specs.Forms.{reading_from}
 use Rattle.game.specs.Tree.{position, refused, state, nowhere, next, words}
 use Rattle.game.specs.declared.state.State.TheVariants.{Won, NotWon}
-use Rattle.game.specs.declared.decline.Decline.TheVariants.{Aim, Form}
 use Rattle.chess_attacks.specs.Lists.{line, lines, leaps, attackers, attacked, checked}
 use Rattle.chess_attacks.specs.declared.men.Side.TheVariants.{White, Black}
 use Rattle.chess_moves.specs.After.{after}
@@ -25,10 +24,10 @@ stalemate_set : reading_of (codes "7k/5Q2/6K1/8/8/8/8/8 b - -") 1 ≡ position (
 unfolding lawful rules_kept pawns_inner tally checked attacked attackers lines line leaps member reading_from man_of side_of run_of file_of empty
 stalemate_set = refl
 
-eighth-set : reading_of (codes "6k1/5ppp/8/8/8/8/8/R5K1 w - -") 8 ≡ refused Aim 0
+eighth-set : reading_of (codes "6k1/5ppp/8/8/8/8/8/R5K1 w - -") 8 ≡ refused 7 0
 eighth-set = refl
 
-none-set : reading_of [] 1 ≡ refused Form 0
+none-set : reading_of [] 1 ≡ refused 8 0
 unfolding reading_from
 none-set = refl
 

@@ -6,11 +6,13 @@ use Rattle.std.specs.List.{AllByRecursion}
 use Rattle.std.proofs.ByRecursion.{All-map, All-weaker}
 use Rattle.std.proofs.lemmas.Bool.{false≢true, leb-true, and_parts}
 use Rattle.form.specs.Forms.{reading}
+use Rattle.form.proofs.Within.{place_within}
 use Rattle.game.specs.Tree.{Tree, position, refused, state, rank, code, nowhere, next, words, ended}
-use Rattle.game.specs.Rules.{Alike, Rules}
-use Rattle.game.specs.declared.state.State.TheVariants.{Won, NotWon, Defender}
+use Rattle.game.specs.Rules.{Alike, Rules, Refusal}
 use Rattle.game.specs.declared.decline.Decline.{Decline}
 use Rattle.game.specs.declared.decline.Decline.TheVariants.{Aim, Form, Unlawful}
+use Rattle.game.specs.Declines.{number}
+use Rattle.game.specs.declared.state.State.TheVariants.{Won, NotWon, Defender}
 use Rattle.chess_attacks.specs.Men.{same_side}
 use Rattle.chess_attacks.specs.declared.men.Side.{Side}
 use Rattle.chess_attacks.specs.declared.men.Side.TheVariants.{White, Black}
@@ -21,6 +23,7 @@ use Rattle.chess_moves.specs.Moves.{legal_moves}
 use Rattle.chess_moves.specs.Legal.{Ordered}
 use Rattle.chess_rules.specs.Lawful.{Lawful, lawful}
 use Rattle.chess_text.specs.Reading.{form}
+use Rattle.chess.specs.Limits.{aim_limit, plies_limit, moves_limit}
 use Rattle.chess.specs.Code as coding
 use Rattle.chess.specs.Trees.{tree, choices, state_of, standing, is_in_check, no_move, text_of}
 use Rattle.chess.specs.Positions.{IsTree, fresh_tree, two_kings}
@@ -47,7 +50,7 @@ begun = record {
   is = refl;
 }
 
-module _ (a : Side) (n : ℕ) (d : Diagram) (few : n ≤ 13) (law : Lawful d) where
+module _ (a : Side) (n : ℕ) (d : Diagram) (few : n ≤ plies_limit) (law : Lawful d) where
   grown : (v : Move) → Lawful (played d v) → IsTree (grow a n d v)
   grown v k = record { attacker = a; plies = n - 1; diagram = played d v; few = omega arith; lawful = k; is = refl }
 
@@ -63,14 +66,14 @@ module _ (a : Side) (n : ℕ) (d : Diagram) (few : n ≤ 13) (law : Lawful d) wh
       subst (λ (r : ℕ). AllByRecursion (λ u. rank u < r) (next (tree a n d))) (sym (rank_is a n d))
       (subst (AllByRecursion (λ u. rank u < n)) (sym (next_is a n d)) (All-map (λ u. rank u < n) (grow a n d) (choices n d) (falls_all n refl)))
 
-  narrow_by : (m : ℕ) → length (choices m d) ≤ 415
+  narrow_by : (m : ℕ) → length (choices m d) ≤ moves_limit
   narrow_by zero = omega arith
   narrow_by (suc m) = omega (arith, few-moves d (law.few_men d.mover) (omega (arith, law.one_king d.mover)))
 
-  narrow : length (next (tree a n d)) ≤ 415
+  narrow : length (next (tree a n d)) ≤ moves_limit
   narrow = omega (arith, count_is a n d, narrow_by n)
 
-  shallow : rank (tree a n d) ≤ 13
+  shallow : rank (tree a n d) ≤ plies_limit
   shallow = omega (arith, rank_is a n d)
 
   -- no move exactly where it has ended
@@ -129,10 +132,10 @@ same_tree t u x y e =
     x.is ∙ ((λ i. tree (r.0 i) (r.1 i) (r.2 i)) ∙ sym y.is)
 
 -- a code is five words
-rest_small : (a : Side) (n : ℕ) (d : Diagram) → n ≤ 13 → coding.rest a n d < 2 ^ 64
+rest_small : (a : Side) (n : ℕ) (d : Diagram) → n ≤ plies_limit → coding.rest a n d < 2 ^ 64
 rest_small a n d h = omega (arith, side_small a, side_small d.mover, passing_small d.passing)
 
-coded : (a : Side) (n : ℕ) (d : Diagram) → n ≤ 13 → Lawful d → (length (code (tree a n d)) ≡ 5) × AllByRecursion (λ w. w < 2 ^ 64) (code (tree a n d))
+coded : (a : Side) (n : ℕ) (d : Diagram) → n ≤ plies_limit → Lawful d → (length (code (tree a n d)) ≡ 5) × AllByRecursion (λ w. w < 2 ^ 64) (code (tree a n d))
 coded a n d h k =
     subst (λ (c : List ℕ). (length c ≡ 5) × AllByRecursion (λ w. w < 2 ^ 64) c) (sym (code_is a n d)) (
       refl,
@@ -149,7 +152,7 @@ alike : (t u : Tree) → t ≡ u → Alike t u
 alike t u e = record { states = ap state e; ranks = ap rank e; counts = ap (λ (t : Tree). length (next t)) e; texts = ap words e; codes = λ i _. ap (λ (t : Tree). code (slice_index_or (next t) i nowhere)) e }
 
 -- a law of the trees, from the law of positions
-each : (P : Tree → Type 0) → ((a : Side) (n : ℕ) (d : Diagram) → n ≤ 13 → Lawful d → P (tree a n d)) → (t : Tree) → IsTree t → P t
+each : (P : Tree → Type 0) → ((a : Side) (n : ℕ) (d : Diagram) → n ≤ plies_limit → Lawful d → P (tree a n d)) → (t : Tree) → IsTree t → P t
 each P h t x = subst P (sym x.is) (h x.attacker x.plies x.diagram x.few x.lawful)
 
 -- ---- what a text gives
@@ -164,7 +167,7 @@ own_side : (a : Side) → same_side a a ≡ true
 own_side White = refl
 own_side Black = refl
 
-pub attacking : (n : ℕ) (d : Diagram) → state (tree d.mover n d) ≢ Defender
+attacking : (n : ℕ) (d : Diagram) → state (tree d.mover n d) ≢ Defender
 unfolding state_of
 attacking n d e =
     not_defender (no_move (legal_moves d)) (is_in_check d) n
@@ -174,7 +177,7 @@ record Given (t : Tree) : Type 0 where
   is_tree : IsTree t
   not_theirs : state t ≡ Defender → ⊥
 
-given_by : (aim : ℕ) (d : Diagram) (t : Tree) → aim ≤ 7 → lawful d ≡ true → tree d.mover (2 * aim - 1) d ≡ t → Given t
+given_by : (aim : ℕ) (d : Diagram) (t : Tree) → aim ≤ aim_limit → lawful d ≡ true → tree d.mover (2 * aim - 1) d ≡ t → Given t
 given_by aim d t h k e = record {
   is_tree = record {
     attacker = d.mover;
@@ -187,35 +190,57 @@ given_by aim d t h k e = record {
   not_theirs = λ q. attacking (2 * aim - 1) d (ap state e ∙ q);
 }
 
-never : {X : Type 0} (c : Decline) (n : ℕ) (t : Tree) → refused c n ≡ position t → X
+never : {X : Type 0} (c n : ℕ) (t : Tree) → refused c n ≡ position t → X
 never c n t e = let z : ◌≡◌ {A = ℕ} 0 1 = cc in absurd (let y : ⊥ = omega arith in y)
 
-judged_given : (aim : ℕ) (r : Result Diagram ℕ) (t : Tree) → aim ≤ 7 → judged aim r ≡ position t → Given t
-judged_given aim (Err n) t h e = never Form n t e
+judged_given : (aim : ℕ) (r : Result Diagram ℕ) (t : Tree) → aim ≤ aim_limit → judged aim r ≡ position t → Given t
+judged_given aim (Err n) t h e = never 8 n t e
 judged_given aim (Ok d) t h e = by (lawful d) refl e
   where
-    by : (x : Bool) → lawful d ≡ x → cond x (position (tree d.mover (2 * aim - 1) d)) (refused Unlawful 0) ≡ position t → Given t
+    by : (x : Bool) → lawful d ≡ x → cond x (position (tree d.mover (2 * aim - 1) d)) (refused 9 0) ≡ position t → Given t
     by true k q = let same : tree d.mover (2 * aim - 1) d ≡ t = cc in given_by aim d t h k same
-    by false k q = never Unlawful 0 t q
+    by false k q = never 9 0 t q
 
 set_given : (x : List ℕ) (aim : ℕ) (t : Tree) → reading_of x aim ≡ position t → Given t
-set_given x aim t e = by (nat_le 1 aim && nat_le aim 7) refl e
+set_given x aim t e = by (nat_le 1 aim && nat_le aim aim_limit) refl e
   where
-    by : (y : Bool) → (nat_le 1 aim && nat_le aim 7) ≡ y → cond y (judged aim (reading form x)) (refused Aim 0) ≡ position t → Given t
-    by true k q = judged_given aim (reading form x) t (leb-true aim 7 (and_parts (nat_le 1 aim) (nat_le aim 7) k).1) q
-    by false k q = never Aim 0 t q
+    by : (y : Bool) → (nat_le 1 aim && nat_le aim aim_limit) ≡ y → cond y (judged aim (reading form x)) (refused 7 0) ≡ position t → Given t
+    by true k q = judged_given aim (reading form x) t (leb-true aim aim_limit (and_parts (nat_le 1 aim) (nat_le aim aim_limit) k).1) q
+    by false k q = never 7 0 t q
 
-pub chess_rules_hold : Rules fresh_tree IsTree 13 415 reading_of
+refusal : (x : List ℕ) (aim n k : ℕ) → reading_of x aim ≡ refused n k → Refusal x n k
+refusal x aim n k = aimed (nat_le 1 aim && nat_le aim aim_limit)
+  where
+    begins : (d : Decline) → refused (number d) 0 ≡ refused n k → Refusal x n k
+    begins d e = let z : 0 ≡ k = cc in record { caused = (d, cc); placed = omega arith; at_start = λ _. sym z }
+
+    kept : (b : Bool) (u : Tree) → cond b (position u) (refused 9 0) ≡ refused n k → Refusal x n k
+    kept true u e = absurd (cc)
+    kept false u e = begins Unlawful e
+
+    read : (r : Result Diagram ℕ) → reading form x ≡ r → judged aim r ≡ refused n k → Refusal x n k
+    read (Ok d) s e = kept (lawful d) (tree d.mover (2 * aim - 1) d) e
+    read (Err m) s e =
+        let place : m ≡ k = cc in
+        let formed : 8 ≡ n = cc in
+        let h = place_within form x m s in
+        record { caused = (Form, formed); placed = omega arith; at_start = λ f. absurd (f (sym formed)) }
+
+    aimed : (b : Bool) → cond b (judged aim (reading form x)) (refused 7 0) ≡ refused n k → Refusal x n k
+    aimed true e = read (reading form x) refl e
+    aimed false e = begins Aim e
+
+pub chess_rules_hold : Rules fresh_tree IsTree plies_limit moves_limit reading_of
 chess_rules_hold = record {
   begun = begun;
-  opens = attacking 1 two_kings;
   reads = λ x aim t e. (set_given x aim t e).is_tree;
   attacks = λ x aim t e. (set_given x aim t e).not_theirs;
   closed = each (λ t. AllByRecursion IsTree (next t)) closed;
+  refuses = refusal;
   over = each (λ t. ended (state t) ≡ true → length (next t) ≡ 0) over;
   alive = each (λ t. ended (state t) ≡ false → 0 < length (next t)) (λ a n d few law h. (alive a n d few law h).0);
-  narrow = each (λ t. length (next t) ≤ 415) narrow;
-  shallow = each (λ t. rank t ≤ 13) shallow;
+  narrow = each (λ t. length (next t) ≤ moves_limit) narrow;
+  shallow = each (λ t. rank t ≤ plies_limit) shallow;
   ranked = each (λ t. ended (state t) ≡ false → 0 < rank t) (λ a n d few law h. (alive a n d few law h).1);
   falls = each (λ t. AllByRecursion (λ u. rank u < rank t) (next t)) falls;
   low = omega arith;

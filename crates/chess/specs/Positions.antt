@@ -7,6 +7,7 @@ use Rattle.chess_attacks.specs.declared.men.Side.{Side}
 use Rattle.chess_attacks.specs.declared.men.Side.TheVariants.{White, Black}
 use Rattle.chess_moves.specs.declared.diagram.Diagram.{Diagram}
 use Rattle.chess_rules.specs.Lawful.{Lawful}
+use Rattle.chess.specs.Limits.{plies_limit}
 use Rattle.chess.specs.declared.problem.Problem.{Problem}
 use Rattle.chess.specs.declared.level.Level.{Level}
 use Rattle.chess.specs.Trees.{tree}
@@ -16,7 +17,7 @@ pub record IsTree (t : Tree) : Type 0 where
   pub attacker : Side
   pub plies : ℕ
   pub diagram : Diagram
-  pub few : plies ≤ 13
+  pub few : plies ≤ plies_limit
   pub lawful : Lawful diagram
   pub is : t ≡ tree attacker plies diagram
 

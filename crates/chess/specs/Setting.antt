@@ -2,29 +2,29 @@
 use Rattle.std.specs.Prelude.{◌≡◌, ℕ, ◌+◌, ◌-◌, ◌*◌, ◌≤◌, cond, ◌&&◌, List, Ok, Err, Result, nat_le}
 use Rattle.form.specs.Forms.{Departs, reading}
 use Rattle.game.specs.Tree.{Reading, position, refused}
-use Rattle.game.specs.declared.decline.Decline.{Decline}
-use Rattle.game.specs.declared.decline.Decline.TheVariants.{Aim, Form, Unlawful}
 use Rattle.chess_moves.specs.declared.diagram.Diagram.{Diagram}
 use Rattle.chess_rules.specs.Lawful.{Lawful, lawful}
 use Rattle.chess_text.specs.Diagrams.{Stands, Texts}
 use Rattle.chess_text.specs.Reading.{form}
+use Rattle.chess.specs.Limits.{aim_limit}
 use Rattle.chess.specs.declared.problem.Problem.{Problem}
 use Rattle.chess.specs.Trees.{tree}
 
--- the side to move is to mate in `aim` moves of its own
+-- the side to move is to mate in `aim` moves of its own; a text that departs from its form is number 8, a diagram that breaks the rules number 9
 abbrev pub judged : ℕ → Result Diagram ℕ → Reading
-judged aim (Err n) = refused Form n
-judged aim (Ok d) = cond (lawful d) (position (tree d.mover (2 * aim - 1) d)) (refused Unlawful 0)
+judged aim (Err n) = refused 8 n
+judged aim (Ok d) = cond (lawful d) (position (tree d.mover (2 * aim - 1) d)) (refused 9 0)
 
+-- an aim that is not 1 to 7 is number 7
 abbrev pub reading_of : List ℕ → ℕ → Reading
-reading_of t aim = cond (nat_le 1 aim && nat_le aim 7) (judged aim (reading form t)) (refused Aim 0)
+reading_of t aim = cond (nat_le 1 aim && nat_le aim aim_limit) (judged aim (reading form t)) (refused 7 0)
 
 -- ---- in words
 
 -- an aim is to mate in 1 to 7 moves
 pub record Aims (aim : ℕ) : Type 0 where
   pub some : 1 ≤ aim
-  pub few : aim ≤ 7
+  pub few : aim ≤ aim_limit
 
 -- the problem of a text: the text stands for its diagram, the side to move attacks, and plies are left for `aim` of its moves
 pub record Sets (t : List ℕ) (aim : ℕ) (p : Problem) : Type 0 where
@@ -34,8 +34,8 @@ pub record Sets (t : List ℕ) (aim : ℕ) (p : Problem) : Type 0 where
   pub attacker : p.attacker ≡ p.position.diagram.mover
   pub plies : p.plies + 1 ≡ 2 * aim
 
--- why a text is not set up, and the place: the first cause that there is
-pub data Refuses (t : List ℕ) (aim : ℕ) : Decline → ℕ → Type 0 where
-  no_aim : (Aims aim → ⊥) → Refuses t aim Aim 0
-  no_text : Aims aim → (n : ℕ) → Departs Texts t n → Refuses t aim Form n
-  no_position : Aims aim → (d : Diagram) → Stands t d → (Lawful d → ⊥) → Refuses t aim Unlawful 0
+-- why a text is not set up, by number, and the place: the first cause that there is
+pub data Refuses (t : List ℕ) (aim : ℕ) : ℕ → ℕ → Type 0 where
+  no_aim : (Aims aim → ⊥) → Refuses t aim 7 0
+  no_text : Aims aim → (n : ℕ) → Departs Texts t n → Refuses t aim 8 n
+  no_position : Aims aim → (d : Diagram) → Stands t d → (Lawful d → ⊥) → Refuses t aim 9 0

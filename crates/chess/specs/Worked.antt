@@ -2,7 +2,6 @@
 use Rattle.std.specs.Prelude.{◌≡◌, ℕ, [], length, get_or, replicate, Some, None, codes, slice_index_or, slice_set}
 use Rattle.game.specs.Tree.{position, refused, state, nowhere, next, words}
 use Rattle.game.specs.declared.state.State.TheVariants.{Won, NotWon}
-use Rattle.game.specs.declared.decline.Decline.TheVariants.{Aim, Form}
 use Rattle.chess_attacks.specs.Men.{Squares}
 use Rattle.chess_attacks.specs.declared.men.Kind.{Kind}
 use Rattle.chess_attacks.specs.declared.men.Kind.TheVariants.{King, Queen, Rook, Pawn}
@@ -36,5 +35,5 @@ pub record Worked : Type 0 where
   pub mates : state (slice_index_or (next (tree White 1 back_row)) 11 nowhere) ≡ Won
   pub stalemate_set : reading_of (codes "7k/5Q2/6K1/8/8/8/8/8 b - -") 1 ≡ position (tree Black 1 stalemate)
   pub stale : state (tree Black 1 stalemate) ≡ NotWon
-  pub eighth : reading_of (codes "6k1/5ppp/8/8/8/8/8/R5K1 w - -") 8 ≡ refused Aim 0
-  pub none : reading_of [] 1 ≡ refused Form 0
+  pub eighth : reading_of (codes "6k1/5ppp/8/8/8/8/8/R5K1 w - -") 8 ≡ refused 7 0
+  pub none : reading_of [] 1 ≡ refused 8 0

@@ -1,4 +1,5 @@
 ghost use Rattle.std.specs.Prelude.{◌≡◌, refl};
+ghost use Rattle.chess.specs.Limits.{plies_limit, moves_limit};
 ghost use Rattle.chess.specs.Positions.{IsTree, level_tree, fresh_tree};
 ghost use Rattle.chess.specs.Setting.{reading_of};
 ghost use Rattle.chess.specs.Laws.{chess_rules_hold};
@@ -24,9 +25,9 @@ impl Position for Level {
 
     ghost positions = { IsTree };
 
-    ghost depth = { 13 };
+    ghost depth = { plies_limit };
 
-    ghost width = { 415 };
+    ghost width = { moves_limit };
 
     ghost reading = { reading_of };
 

@@ -1,4 +1,5 @@
 ghost use Rattle.std.specs.Prelude.{◌≤◌};
+ghost use Rattle.chess.specs.Limits.{plies_limit};
 
 use chess_attacks::Side;
 use chess_rules::Position;
@@ -9,5 +10,5 @@ pub struct Problem {
     pub(crate) position: Position,
     pub(crate) attacker: Side,
     pub(crate) plies: u8,
-    ghost short: { plies ≤ 13 },
+    ghost short: { plies ≤ plies_limit },
 }

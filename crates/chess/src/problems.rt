@@ -1,6 +1,7 @@
 ghost use Rattle.std.specs.Prelude.{◌≡◌, ℕ, ◌-◌, Some, MatchResult};
 ghost use Rattle.std.specs.List.{slice_get};
 ghost use Rattle.game.specs.Tree.{position, refused, state, code};
+ghost use Rattle.game.specs.Declines.{number};
 ghost use Rattle.chess_attacks.specs.Men.{same_side};
 ghost use Rattle.chess_moves.specs.After.{played};
 ghost use Rattle.chess.specs.Trees.{standing, is_in_check};
@@ -14,6 +15,8 @@ use chess_attacks::{Kind, Man, Side};
 use chess_moves::{Diagram, Move};
 use chess_rules::Position;
 use game::{Decline, SetDecline, State};
+
+const LARGEST_AIM: u32 = 7;
 
 impl Problem {
     /// `4k3/8/8/8/8/8/8/4K3 w - -`, with one ply left.
@@ -46,12 +49,12 @@ impl Problem {
     pub fn read(text: &[u8], aim: u32) -> Result<Problem, SetDecline>
         ensures exact { MatchResult result
             (λ p. reading_of text.now aim ≡ position (tree_of p))
-            (λ e. reading_of text.now aim ≡ refused e.cause e.place) }
+            (λ e. reading_of text.now aim ≡ refused (number e.cause) e.place) }
         ensures meaning { MatchResult result
             (λ p. Sets text.now aim p)
-            (λ e. Refuses text.now aim e.cause e.place) }
+            (λ e. Refuses text.now aim (number e.cause) e.place) }
     {
-        if aim < 1 || aim > 7 {
+        if aim < 1 || aim > LARGEST_AIM {
             return Err(Decline::Aim.into());
         }
         let diagram = chess_text::read(text).map_err(SetDecline::at)?;

@@ -3,48 +3,49 @@ use Rattle.std.proofs.Common.{◌≡◌, ℕ, [], refl, ap, ◌∙◌, ◌+◌, 
 use Rattle.std.proofs.lemmas.Bool.{leb-true, le-leb, and_parts, and_from}
 use Rattle.std.proofs.lemmas.List.{length-map}
 use Rattle.game.specs.declared.path.Path.{Path}
+use Rattle.game.specs.Limits.{depth_limit}
 use Rattle.game.specs.Paths.{before, roomy, ranks}
 
-roomy_free : (q r : ℕ) (rs : List ℕ) → roomy (r ∷ rs) ≡ true → q < r → length rs < 32
+roomy_free : (q r : ℕ) (rs : List ℕ) → roomy (r ∷ rs) ≡ true → q < r → length rs < depth_limit
 roomy_free q r rs e h =
-    let k = leb-true (r + length rs) 32 (and_parts (leb (r + length rs) 32) (roomy rs) e).0 in
+    let k = leb-true (r + length rs) depth_limit (and_parts (leb (r + length rs) depth_limit) (roomy rs) e).0 in
     omega arith
 
-pub free : {P : Type 0} (rank : P → ℕ) (p : Path P) (next : P) → roomy (ranks rank p) ≡ true → rank next < rank p.current → length (before p) < 32
+pub free : {P : Type 0} (rank : P → ℕ) (p : Path P) (next : P) → roomy (ranks rank p) ≡ true → rank next < rank p.current → length (before p) < depth_limit
 free rank p next e h =
     let k = roomy_free (rank next) (rank p.current) (map rank (before p)) e h in
     omega (arith, simp length-map at k)
 
--- a path of one position has room where its rank is at most 32
-pub begins : {P : Type 0} (rank : P → ℕ) (p : Path P) → rank p.current ≤ 32 → before p ≡ [] → roomy (ranks rank p) ≡ true
+-- a path of one position has room where its rank is at most depth_limit
+pub begins : {P : Type 0} (rank : P → ℕ) (p : Path P) → rank p.current ≤ depth_limit → before p ≡ [] → roomy (ranks rank p) ≡ true
 begins rank p low e =
     ap (λ ps. roomy (map rank (p.current ∷ ps))) e
-    ∙ and_from (leb (rank p.current + 0) 32) true (le-leb (rank p.current + 0) 32 (omega arith)) refl
+    ∙ and_from (leb (rank p.current + 0) depth_limit) true (le-leb (rank p.current + 0) depth_limit (omega arith)) refl
 
 -- and one move of less rank leaves it its room
 pub goes_on : {P : Type 0} (rank : P → ℕ) (p q : Path P) → roomy (ranks rank p) ≡ true → rank q.current < rank p.current → before q ≡ p.current ∷ before p
     → roomy (ranks rank q) ≡ true
 goes_on rank p q e less b =
     let rs = map rank (before p) in
-    let h = and_parts (leb (rank p.current + length rs) 32) (roomy rs) e in
-    let k = leb-true (rank p.current + length rs) 32 h.0 in
+    let h = and_parts (leb (rank p.current + length rs) depth_limit) (roomy rs) e in
+    let k = leb-true (rank p.current + length rs) depth_limit h.0 in
     ap (λ ps. roomy (map rank (q.current ∷ ps))) b
-    ∙ and_from (leb (rank q.current + length (rank p.current ∷ rs)) 32) (roomy (rank p.current ∷ rs)) (le-leb _ 32 (omega arith)) e
+    ∙ and_from (leb (rank q.current + length (rank p.current ∷ rs)) depth_limit) (roomy (rank p.current ∷ rs)) (le-leb _ depth_limit (omega arith)) e
 
 -- so the step is taken
 pub steps : {P : Type 0} (p q : Path P) (next : P) (r : Result (Unit {0}) P)
     → MatchResult r
-    (λ _. (length (before p) < 32) × (q.current ≡ next) × (before q ≡ p.current ∷ before p))
-    (λ x. (32 ≤ length (before p)) × (q.current ≡ p.current) × (before q ≡ before p) × (x ≡ next))
-    → length (before p) < 32 → IsOk r
+    (λ _. (length (before p) < depth_limit) × (q.current ≡ next) × (before q ≡ p.current ∷ before p))
+    (λ x. (depth_limit ≤ length (before p)) × (q.current ≡ p.current) × (before q ≡ before p) × (x ≡ next))
+    → length (before p) < depth_limit → IsOk r
 steps p q next (Ok u) m h = search rules
 steps p q next (Err x) m h = absurd (omega (arith, m.0))
 
 -- whether or not it is taken, there is room after it
 pub room_after : {P : Type 0} (rank : P → ℕ) (p q : Path P) (next : P) (r : Result (Unit {0}) P)
     → MatchResult r
-    (λ _. (length (before p) < 32) × (q.current ≡ next) × (before q ≡ p.current ∷ before p))
-    (λ x. (32 ≤ length (before p)) × (q.current ≡ p.current) × (before q ≡ before p) × (x ≡ next))
+    (λ _. (length (before p) < depth_limit) × (q.current ≡ next) × (before q ≡ p.current ∷ before p))
+    (λ x. (depth_limit ≤ length (before p)) × (q.current ≡ p.current) × (before q ≡ before p) × (x ≡ next))
     → roomy (ranks rank p) ≡ true → rank next < rank p.current → roomy (ranks rank q) ≡ true
 room_after rank p q next (Ok u) m e less = goes_on rank p q e (omega (arith, less, ap rank m.1)) m.2
 room_after rank p q next (Err x) m e less = (λ i. roomy (map rank (m.1 i ∷ m.2 i))) ∙ e

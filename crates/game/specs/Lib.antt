@@ -1,3 +1,4 @@
+pub mod Limits
 pub mod Tree
 pub mod States
 pub mod Declines

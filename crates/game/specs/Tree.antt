@@ -3,7 +3,6 @@
 use Rattle.std.specs.Prelude.{ℕ, Bool, true, false, ◌&&◌, ◌||◌, List, [], ◌∷◌}
 use Rattle.game.specs.declared.state.State.{State}
 use Rattle.game.specs.declared.state.State.TheVariants.{Won, NotWon, Attacker, Defender}
-use Rattle.game.specs.declared.decline.Decline.{Decline}
 
 mutual
   pub data Tree : Type 0 where
@@ -67,7 +66,7 @@ unfoldable mutual
   all_won none = true
   all_won (move x t m) = minimax t && all_won m
 
--- what a reading rule makes of a text: a position, or a cause for which it is declined and a place in the text
+-- what a reading rule makes of a text: a position, or the number of the cause for which it is declined and a place in the text
 pub data Reading : Type 0 where
   position : Tree → Reading
-  refused : Decline → ℕ → Reading
+  refused : ℕ → ℕ → Reading

@@ -1,6 +1,5 @@
 ghost use Rattle.std.specs.Prelude.{◌≡◌};
-ghost use Rattle.game.specs.Declines.{number};
-ghost use Rattle.game.specs.declared.decline.Decline.TheVariants.{Form};
+ghost use Rattle.game.specs.Declines.{number, NumberTells};
 
 /// Why a call is declined, in the order in which the causes are checked. Each has the number by which it is known.
 #[derive(Clone, Copy, PartialEq, Eq, Debug)]
@@ -36,6 +35,11 @@ impl Decline {
     }
 }
 
+/// Causes of the same number are the same: a number tells its cause.
+pub fn number_tells()
+    ensures { NumberTells }
+{}
+
 /// Why a text is not set up: the cause, and the place in the text, which is 0 but for a departure from the form.
 #[derive(Clone, Copy, PartialEq, Eq, Debug)]
 pub struct SetDecline {
@@ -46,7 +50,8 @@ pub struct SetDecline {
 impl SetDecline {
     /// The text departs from its form at a place.
     pub fn at(place: usize) -> SetDecline
-        ensures { result ≡ record { cause = Form; place = place } }
+        ensures cause { number result.cause ≡ 8 }
+        ensures place { result.place ≡ place }
     {
         SetDecline {
             cause: Decline::Form,
@@ -56,7 +61,7 @@ impl SetDecline {
 }
 
 impl From<Decline> for SetDecline {
-    ghost from_gives = { λ c r. r ≡ record { cause = c; place = 0 } };
+    ghost from_gives = { λ c r. (number r.cause ≡ number c) × (r.place ≡ 0) };
 
     fn from(cause: Decline) -> SetDecline {
         SetDecline { cause, place: 0 }

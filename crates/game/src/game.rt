@@ -1,6 +1,7 @@
 ghost use Rattle.std.specs.Prelude.{◌≡◌, ℕ, ◌<◌, ◌≤◌, List, [], ◌∷◌, length, MatchOption, MatchResult, ◌≢◌, slice_index_or};
 ghost use Rattle.std.specs.List.{slice_get};
 ghost use Rattle.game.specs.Tree.{Tree, Reading, position, refused, nowhere, state, rank, code, next, words};
+ghost use Rattle.game.specs.Declines.{number};
 ghost use Rattle.game.specs.Rules.{Rules};
 
 use crate::{Decline, SetDecline, State};
@@ -21,7 +22,7 @@ pub trait Game: Sized {
 
     ghost width: { ℕ };
 
-    // what a text says under an aim
+    // what a text says under an aim: a position, or the number of the cause for which it is refused and the place
     ghost reading: { List ℕ → ℕ → Reading };
 
     /// A path of one position, the same for every fresh game.
@@ -34,7 +35,7 @@ pub trait Game: Sized {
         ensures { MatchResult result
             (λ _. (reading text.now aim ≡ position (current self.new))
             × (earlier self.new ≡ []))
-            (λ e. (reading text.now aim ≡ refused e.cause e.place)
+            (λ e. (reading text.now aim ≡ refused (number e.cause) e.place)
             × (current self.new ≡ current self.old)
             × (earlier self.new ≡ earlier self.old)) };
 
@@ -74,7 +75,7 @@ pub trait Game: Sized {
             (λ e. (length (next (current self.old)) ≤ i)
             × (current self.new ≡ current self.old)
             × (earlier self.new ≡ earlier self.old)
-            × (e ≡ Decline.MoveNumber)) };
+            × (number e ≡ 5)) };
 
     /// Takes the last move back: declined exactly where the path has one position, and the path stays.
     fn take_back(&mut self) -> Result<(), Decline>
@@ -83,7 +84,7 @@ pub trait Game: Sized {
             (λ e. (earlier self.old ≡ [])
             × (current self.new ≡ current self.old)
             × (earlier self.new ≡ [])
-            × (e ≡ Decline.TakeBack)) };
+            × (number e ≡ 6)) };
 
     ghost lawful: { Rules start positions depth width reading };
 

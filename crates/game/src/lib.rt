@@ -10,7 +10,7 @@ mod position;
 mod same;
 mod state;
 
-pub use decline::{Decline, SetDecline};
+pub use decline::{Decline, SetDecline, number_tells};
 pub use game::Game;
 pub use path::Path;
 pub use played::Played;

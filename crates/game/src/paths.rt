@@ -1,4 +1,5 @@
 ghost use Rattle.std.specs.Prelude.{◌≡◌, ◌<◌, ◌≤◌, [], ◌∷◌, length, MatchOption, MatchResult};
+ghost use Rattle.game.specs.Limits.{depth_limit};
 ghost use Rattle.game.specs.Paths.{before};
 
 use crate::Path;
@@ -36,10 +37,10 @@ impl<P: Drop> Path<P> {
     /// One position more, which is then the current one. It is handed back where the path has 33 positions already.
     pub fn advance(&mut self, next: P) -> Result<(), P>
         ensures { MatchResult result
-            (λ _. (length (before self.old) < 32)
+            (λ _. (length (before self.old) < depth_limit)
             × (self.new.current ≡ next)
             × (before self.new ≡ self.old.current ∷ before self.old))
-            (λ p. (32 ≤ length (before self.old))
+            (λ p. (depth_limit ≤ length (before self.old))
             × (self.new.current ≡ self.old.current)
             × (before self.new ≡ before self.old)
             × (p ≡ next)) }

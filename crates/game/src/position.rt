@@ -1,6 +1,7 @@
 ghost use Rattle.std.specs.Prelude.{◌≡◌, ℕ, ◌<◌, ◌≤◌, List, [], length, MatchOption, MatchResult, ◌≢◌, slice_index_or};
 ghost use Rattle.std.specs.List.{slice_get};
 ghost use Rattle.game.specs.Tree.{Tree, Reading, position, refused, nowhere, state, rank, code, next, words};
+ghost use Rattle.game.specs.Declines.{number};
 ghost use Rattle.game.specs.Rules.{Rules};
 
 use crate::{SetDecline, State};
@@ -18,7 +19,7 @@ pub trait Position: Default + Drop {
 
     ghost width: { ℕ };
 
-    // what a text says under an aim
+    // what a text says under an aim: a position, or the number of the cause for which it is refused and the place
     ghost reading: { List ℕ → ℕ → Reading };
 
     /// A fresh game's position, the same for every fresh game.
@@ -29,7 +30,7 @@ pub trait Position: Default + Drop {
     fn read(text: &[u8], aim: u32) -> Result<Self, SetDecline>
         ensures { MatchResult result
             (λ p. reading text.now aim ≡ position (tree p))
-            (λ e. reading text.now aim ≡ refused e.cause e.place) };
+            (λ e. reading text.now aim ≡ refused (number e.cause) e.place) };
 
     /// Who is to move, or how the game has ended.
     fn state(&self) -> State

@@ -5,12 +5,12 @@ use crate::Game;
 
 /// In every game, positions with equal codes are the same tree.
 pub fn codes_tell<G: Game>()
-    ensures { CodesTell G.Game.positions }
+    ensures { CodesTell G.positions }
 {}
 
 /// Whether two games stand at the same position, as their codes tell.
 pub fn same_position<G: Game>(a: &G, b: &G) -> bool
-    ensures { Decides result (G.Game.current a.now ≡ G.Game.current b.now) }
+    ensures { Decides result (G.current a.now ≡ G.current b.now) }
 {
     a.code() == b.code()
 }

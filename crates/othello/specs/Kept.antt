@@ -3,6 +3,7 @@ use Rattle.std.specs.Prelude.{◌≡◌, ℕ, ◌^◌, ◌<◌, ◌≤◌, Bool,
 use Rattle.std.proofs.Common.{arith}
 use Rattle.othello_rules.specs.Diagrams.{empties, placeable, placed, passed}
 use Rattle.othello_rules.specs.declared.diagram.Diagram.{Diagram}
+use Rattle.othello.specs.Limits.{empties_limit}
 use Rattle.othello.specs.Grown.{fewer}
 use Rattle.othello.specs.Apart.{placed_apart, placed_fits}
 
@@ -10,13 +11,13 @@ use Rattle.othello.specs.Apart.{placed_apart, placed_fits}
 pub record Keeps (d : Diagram) : Type 0 where
   pub apart : bit_and d.x d.o ≡ 0
   pub board : (d.x < 2 ^ 64) × (d.o < 2 ^ 64)
-  pub few : empties d ≤ 14
+  pub few : empties d ≤ empties_limit
 
 pub placed_keeps : (d : Diagram) (s : ℕ) → s < 64 → placeable d s ≡ true → Keeps d → Keeps (placed d s)
 placed_keeps d s h e k = record {
   apart = placed_apart d s k.apart e;
   board = placed_fits d s;
-  few = let f : empties d ≤ 14 = k.few in omega (arith, fewer d s h e);
+  few = let f : empties d ≤ empties_limit = k.few in omega (arith, fewer d s h e);
 }
 
 pub passed_keeps : (d : Diagram) → Keeps d → Keeps (passed d)

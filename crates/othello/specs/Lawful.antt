@@ -5,10 +5,12 @@ use Rattle.std.proofs.lemmas.List.{length-map, get_or-map}
 use Rattle.std.proofs.lemmas.Bool.{ltb-false}
 use Rattle.form.specs.Forms.{reading as said}
 use Rattle.form.proofs.Departing.{says_reading}
+use Rattle.form.proofs.Within.{place_within}
 use Rattle.game.specs.Tree.{Tree, position, refused, state, code, words}
-use Rattle.game.specs.Rules.{Alike, Rules}
+use Rattle.game.specs.Rules.{Alike, Rules, Refusal}
 use Rattle.game.specs.declared.decline.Decline.{Decline}
 use Rattle.game.specs.declared.decline.Decline.TheVariants.{Aim, Form, Empties}
+use Rattle.game.specs.Declines.{number}
 use Rattle.board.specs.Masks.{bit, size}
 use Rattle.othello_rules.specs.Diagrams.{empties, placeable, placements, turn}
 use Rattle.othello_rules.specs.Reading.{form}
@@ -18,13 +20,14 @@ use Rattle.othello_rules.specs.declared.side.Side.TheVariants.{X, O}
 use Rattle.othello_rules.specs.declared.turn.Turn.{Turn}
 use Rattle.othello_rules.specs.declared.turn.Turn.TheVariants.{Place, Pass, Ended}
 use Rattle.othello_rules.proofs.Meaning.{stands}
+use Rattle.othello.specs.Limits.{aim_limit, empties_limit, rank_limit}
 use Rattle.othello.specs.Endings.{square_text, side_number, code_of, CodesPin, tree}
 use Rattle.othello.specs.Positions.{IsEnding, full, start}
 use Rattle.othello.specs.Setting.{reading_of, reading}
 use Rattle.othello.specs.Kept.{Keeps}
 use Rattle.othello.specs.Listed.{code_is, words_place, words_turn}
 use Rattle.othello.specs.Rising.{Rising, rising, one_place}
-use Rattle.othello.specs.Laws.{by_tree, ending, alike_self, over_at, alive_at, narrow_at, shallow_at, ranked_at, closed_at, falls_at, five_at, coded_at, opens_at}
+use Rattle.othello.specs.Laws.{by_tree, ending, alike_self, over_at, alive_at, narrow_at, shallow_at, ranked_at, closed_at, falls_at, five_at, coded_at, attacks_at}
 
 -- ---- no two moves share a text
 
@@ -95,45 +98,67 @@ full_keeps = record { apart = refl; board = (omega arith, omega arith); few = om
 -- a reading that gives a position gives a sound diagram's, with the mover as the attacker
 pub record Given (t : List ℕ) (aim : ℕ) (u : Tree) : Type 0 where
   pub diagram : Diagram
-  pub within : aim ≤ 64
+  pub within : aim ≤ aim_limit
   pub keeps : Keeps diagram
   pub is : u ≡ tree diagram.mover aim diagram
 
-refusing : {T : Type 0} (c : Decline) (n : ℕ) (u : Tree) → refused c n ≡ position u → T
+refusing : {T : Type 0} (c n : ℕ) (u : Tree) → refused c n ≡ position u → T
 refusing c n u e = absurd (cc)
 
 pub given_by : (t : List ℕ) (aim : ℕ) (u : Tree) → reading t aim ≡ position u → Given t aim u
-given_by t aim u = aimed (nat_lt 64 aim) refl
+given_by t aim u = aimed (nat_lt aim_limit aim) refl
   where
-    taken : (d : Diagram) → nat_lt 64 aim ≡ false → said form t ≡ Ok d → (b : Bool) → nat_lt 14 (empties d) ≡ b
-        → cond b (refused Empties 0) (position (tree d.mover aim d)) ≡ position u → Given t aim u
-    taken d a s true f e = refusing Empties 0 u e
+    taken : (d : Diagram) → nat_lt aim_limit aim ≡ false → said form t ≡ Ok d → (b : Bool) → nat_lt empties_limit (empties d) ≡ b
+        → cond b (refused 10 0) (position (tree d.mover aim d)) ≡ position u → Given t aim u
+    taken d a s true f e = refusing 10 0 u e
     taken d a s false f e =
         let w = stands t d (says_reading form t d s) in
         record {
           diagram = d;
-          within = ltb-false 64 aim a;
-          keeps = record { apart = w.sound.apart; board = (w.sound.x_fits, w.sound.o_fits); few = ltb-false 14 (empties d) f };
+          within = ltb-false aim_limit aim a;
+          keeps = record { apart = w.sound.apart; board = (w.sound.x_fits, w.sound.o_fits); few = ltb-false empties_limit (empties d) f };
           is = (let k : u ≡ tree d.mover aim d = cc in k);
         }
 
-    read : (r : Result Diagram ℕ) → nat_lt 64 aim ≡ false → said form t ≡ r → reading_of r aim ≡ position u → Given t aim u
-    read (Ok d) a s e = taken d a s (nat_lt 14 (empties d)) refl e
-    read (Err n) a s e = refusing Form n u e
+    read : (r : Result Diagram ℕ) → nat_lt aim_limit aim ≡ false → said form t ≡ r → reading_of r aim ≡ position u → Given t aim u
+    read (Ok d) a s e = taken d a s (nat_lt empties_limit (empties d)) refl e
+    read (Err n) a s e = refusing 8 n u e
 
-    aimed : (b : Bool) → nat_lt 64 aim ≡ b → cond b (refused Aim 0) (reading_of (said form t) aim) ≡ position u → Given t aim u
-    aimed true a e = refusing Aim 0 u e
+    aimed : (b : Bool) → nat_lt aim_limit aim ≡ b → cond b (refused 7 0) (reading_of (said form t) aim) ≡ position u → Given t aim u
+    aimed true a e = refusing 7 0 u e
     aimed false a e = read (said form t) a refl e
 
-pub lawful : Rules start IsEnding 29 14 reading
+refusal : (t : List ℕ) (aim n k : ℕ) → reading t aim ≡ refused n k → Refusal t n k
+refusal t aim n k = aimed (nat_lt aim_limit aim)
+  where
+    begins : (d : Decline) → refused (number d) 0 ≡ refused n k → Refusal t n k
+    begins d e = let z : 0 ≡ k = cc in record { caused = (d, cc); placed = omega arith; at_start = λ _. sym z }
+
+    taken : (b : Bool) (u : Tree) → cond b (refused 10 0) (position u) ≡ refused n k → Refusal t n k
+    taken true u e = begins Empties e
+    taken false u e = absurd (cc)
+
+    read : (r : Result Diagram ℕ) → said form t ≡ r → reading_of r aim ≡ refused n k → Refusal t n k
+    read (Ok d) s e = taken (nat_lt empties_limit (empties d)) (tree d.mover aim d) e
+    read (Err m) s e =
+        let place : m ≡ k = cc in
+        let formed : 8 ≡ n = cc in
+        let h = place_within form t m s in
+        record { caused = (Form, formed); placed = omega arith; at_start = λ f. absurd (f (sym formed)) }
+
+    aimed : (b : Bool) → cond b (refused 7 0) (reading_of (said form t) aim) ≡ refused n k → Refusal t n k
+    aimed true e = begins Aim e
+    aimed false e = read (said form t) refl e
+
+pub lawful : Rules start IsEnding rank_limit empties_limit reading
 lawful = record {
   begun = ending X 0 full (omega arith) full_keeps;
-  opens = opens_at X 0 full refl;
   reads = λ x aim t e. (let g = given_by x aim t e in
       subst IsEnding (sym g.is) (ending g.diagram.mover aim g.diagram g.within g.keeps));
   attacks = λ x aim t e h. (let g = given_by x aim t e in
-      opens_at g.diagram.mover aim g.diagram refl (sym (ap state g.is) ∙ h));
+      attacks_at g.diagram.mover aim g.diagram refl (sym (ap state g.is) ∙ h));
   closed = by_tree _ closed_at;
+  refuses = refusal;
   over = by_tree _ (λ a n d h k. over_at a n d);
   alive = by_tree _ (λ a n d h k. alive_at a n d);
   narrow = by_tree _ (λ a n d h k. narrow_at a n d k);

@@ -16,6 +16,7 @@ use Rattle.othello_rules.specs.declared.side.Side.{Side}
 use Rattle.othello_rules.specs.declared.side.Side.TheVariants.{X, O}
 use Rattle.othello_rules.specs.declared.turn.Turn.{Turn}
 use Rattle.othello_rules.specs.declared.turn.Turn.TheVariants.{Place, Pass, Ended}
+use Rattle.othello.specs.Limits.{aim_limit, empties_limit, rank_limit}
 use Rattle.othello.specs.Endings.{Move, reached, to_move, state_by, due, rank_of, side_number, moves_of, tree}
 use Rattle.othello.specs.Positions.{IsEnding}
 use Rattle.othello.specs.Fewer.{size_le}
@@ -27,12 +28,12 @@ use Rattle.othello.specs.Listed.{rank_is, code_is, next_is, words_is, state_turn
 -- ---- what holds of the trees of endings holds of positions
 
 pub by_tree : (P : Tree → Type 0)
-    → ((attacker : Side) (aim : ℕ) (d : Diagram) → aim ≤ 64 → Keeps d → P (tree attacker aim d)) → (t : Tree) → IsEnding t → P t
+    → ((attacker : Side) (aim : ℕ) (d : Diagram) → aim ≤ aim_limit → Keeps d → P (tree attacker aim d)) → (t : Tree) → IsEnding t → P t
 by_tree P f t e =
     subst P (sym e.is) (f e.attacker e.aim e.diagram e.within
     (record { apart = e.sound.apart; board = (e.sound.x_fits, e.sound.o_fits); few = e.few }))
 
-pub ending : (attacker : Side) (aim : ℕ) (d : Diagram) → aim ≤ 64 → Keeps d → IsEnding (tree attacker aim d)
+pub ending : (attacker : Side) (aim : ℕ) (d : Diagram) → aim ≤ aim_limit → Keeps d → IsEnding (tree attacker aim d)
 ending attacker aim d h k = record {
   attacker = attacker;
   aim = aim;
@@ -89,17 +90,17 @@ module _ (attacker : Side) (aim : ℕ) (d : Diagram) where
   unfolding empties placements size
   listed_few = size_le (placeable d) (empty d) (λ s h e. on-empty d s e)
 
-  pub narrow_at : Keeps d → length (next (tree attacker aim d)) ≤ 14
+  pub narrow_at : Keeps d → length (next (tree attacker aim d)) ≤ empties_limit
   narrow_at k = go (turn d) refl
     where
-      go : (t : Turn) → t ≡ turn d → length (next (tree attacker aim d)) ≤ 14
-      go Place e = let f : empties d ≤ 14 = k.few in omega (arith, count_place attacker aim d e, listed_few)
+      go : (t : Turn) → t ≡ turn d → length (next (tree attacker aim d)) ≤ empties_limit
+      go Place e = let f : empties d ≤ empties_limit = k.few in omega (arith, count_place attacker aim d e, listed_few)
       go Pass e = omega (arith, count_turn attacker aim d Pass e)
       go Ended e = omega (arith, count_turn attacker aim d Ended e)
 
-  pub shallow_at : Keeps d → rank (tree attacker aim d) ≤ 29
+  pub shallow_at : Keeps d → rank (tree attacker aim d) ≤ rank_limit
   unfolding rank_of
-  shallow_at k = let f : empties d ≤ 14 = k.few in omega (arith, rank_is attacker aim d, due_le (turn d))
+  shallow_at k = let f : empties d ≤ empties_limit = k.few in omega (arith, rank_is attacker aim d, due_le (turn d))
 
   pub ranked_at : ended (state (tree attacker aim d)) ≡ false → 0 < rank (tree attacker aim d)
   unfolding rank_of
@@ -114,7 +115,7 @@ module _ (attacker : Side) (aim : ℕ) (d : Diagram) where
   each_next : (P : Tree → Type 0) → AllByRecursion (λ m. P (tree attacker aim m.to)) (moves_of d) → AllByRecursion P (next (tree attacker aim d))
   each_next P a = subst (AllByRecursion P) (sym (next_is attacker aim d)) (All-map P (λ (m : Move). tree attacker aim m.to) (moves_of d) a)
 
-  pub closed_at : aim ≤ 64 → Keeps d → AllByRecursion IsEnding (next (tree attacker aim d))
+  pub closed_at : aim ≤ aim_limit → Keeps d → AllByRecursion IsEnding (next (tree attacker aim d))
   closed_at h k =
       each_next IsEnding (each_move d (λ m. IsEnding (tree attacker aim m.to))
       (λ s l e. ending attacker aim (placed d s) h (placed_keeps d s l e k)) (λ e. ending attacker aim (passed d) h (passed_keeps d k)))
@@ -134,14 +135,14 @@ module _ (attacker : Side) (aim : ℕ) (d : Diagram) where
   side_small X = omega arith
   side_small O = omega arith
 
-  pub coded_at : aim ≤ 64 → Keeps d → (length (code (tree attacker aim d)) ≡ 5) × AllByRecursion (λ w. w < 2 ^ 64) (code (tree attacker aim d))
+  pub coded_at : aim ≤ aim_limit → Keeps d → (length (code (tree attacker aim d)) ≡ 5) × AllByRecursion (λ w. w < 2 ^ 64) (code (tree attacker aim d))
   coded_at h k =
       subst (λ (c : List ℕ). (length c ≡ 5) × AllByRecursion (λ w. w < 2 ^ 64) c) (sym (code_is attacker aim d))
       (refl, (k.board.0, (k.board.1, (side_small d.mover, (side_small attacker, (omega arith, tt))))))
 
-  -- the side to move at the beginning attacks
-  pub opens_at : d.mover ≡ attacker → state (tree attacker aim d) ≢ Defender
-  opens_at e h = go (turn d) refl
+  -- the defender is not to move where the mover attacks
+  pub attacks_at : d.mover ≡ attacker → state (tree attacker aim d) ≢ Defender
+  attacks_at e h = go (turn d) refl
     where
       own : (m : Side) → to_move m m ≡ Attacker
       own X = refl

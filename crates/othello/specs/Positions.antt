@@ -6,6 +6,7 @@ use Rattle.othello_rules.specs.Texts.{Sound}
 use Rattle.othello_rules.specs.declared.diagram.Diagram.{Diagram}
 use Rattle.othello_rules.specs.declared.side.Side.{Side}
 use Rattle.othello_rules.specs.declared.side.Side.TheVariants.{X}
+use Rattle.othello.specs.Limits.{aim_limit, empties_limit}
 use Rattle.othello.specs.Endings.{tree}
 use Rattle.othello.specs.declared.position.Position.{Position}
 
@@ -24,7 +25,7 @@ pub record IsEnding (t : Tree) : Type 0 where
   pub attacker : Side
   pub aim : ℕ
   pub diagram : Diagram
-  pub within : aim ≤ 64
+  pub within : aim ≤ aim_limit
   pub sound : Sound diagram
-  pub few : empties diagram ≤ 14
+  pub few : empties diagram ≤ empties_limit
   pub is : t ≡ tree attacker aim diagram

@@ -1,4 +1,5 @@
 ghost use Rattle.std.specs.Prelude.{◌≡◌};
+ghost use Rattle.othello.specs.Limits.{empties_limit, rank_limit};
 ghost use Rattle.othello.specs.Positions.{IsEnding, start, tree_of};
 ghost use Rattle.othello.specs.Setting.{reading};
 ghost use Rattle.othello.specs.Lawful;
@@ -25,9 +26,9 @@ impl game::Position for Position {
 
     ghost positions = { IsEnding };
 
-    ghost depth = { 29 };
+    ghost depth = { rank_limit };
 
-    ghost width = { 14 };
+    ghost width = { empties_limit };
 
     ghost reading = { reading };
 

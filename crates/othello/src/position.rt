@@ -1,5 +1,6 @@
 ghost use Rattle.std.specs.Prelude.{◌≡◌, ◌^◌, ◌<◌, ◌≤◌, bit_and};
 ghost use Rattle.othello_rules.specs.Diagrams.{empties};
+ghost use Rattle.othello.specs.Limits.{aim_limit, empties_limit};
 
 use othello_rules::{Diagram, Side};
 
@@ -12,6 +13,6 @@ pub struct Position {
     pub(crate) aim: u8,
     ghost apart: { bit_and diagram.x diagram.o ≡ 0 },
     ghost board: { (diagram.x < 2 ^ 64) × (diagram.o < 2 ^ 64) },
-    ghost within: { aim ≤ 64 },
-    ghost few: { empties diagram ≤ 14 },
+    ghost within: { aim ≤ aim_limit },
+    ghost few: { empties diagram ≤ empties_limit },
 }

@@ -1,5 +1,6 @@
 ghost use Rattle.std.specs.Prelude.{◌≡◌, MatchResult};
 ghost use Rattle.game.specs.Tree.{position, refused};
+ghost use Rattle.game.specs.Declines.{number};
 ghost use Rattle.othello.specs.Positions.{tree_of};
 ghost use Rattle.othello.specs.Setting.{reading, Taken, Declined};
 
@@ -14,10 +15,10 @@ const MOST_EMPTIES: u32 = 14;
 pub fn set_up(text: &[u8], aim: u32) -> Result<Position, SetDecline>
     ensures exact { MatchResult result
         (λ p. reading text.now aim ≡ position (tree_of p))
-        (λ e. reading text.now aim ≡ refused e.cause e.place) }
+        (λ e. reading text.now aim ≡ refused (number e.cause) e.place) }
     ensures meaning { MatchResult result
         (λ p. Taken text.now aim p)
-        (λ e. Declined text.now aim e.cause e.place) }
+        (λ e. Declined text.now aim (number e.cause) e.place) }
 {
     if aim > LARGEST_AIM {
         return Err(Decline::Aim.into());

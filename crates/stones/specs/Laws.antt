@@ -4,9 +4,9 @@ use Rattle.std.proofs.Common.{arith, sym, ap, subst, ◌∙◌, lit<}
 use Rattle.std.specs.List.{AllByRecursion}
 use Rattle.std.proofs.lemmas.Bool.{leb-true, and_parts}
 use Rattle.game.specs.Tree.{Tree, position, refused, state, rank, code, next, words, ended}
-use Rattle.game.specs.Rules.{Rules, Alike}
-use Rattle.game.specs.declared.state.State.TheVariants.{Defender}
+use Rattle.game.specs.Rules.{Rules, Alike, Refusal}
 use Rattle.game.specs.declared.decline.Decline.TheVariants.{Aim, Form}
+use Rattle.game.specs.declared.state.State.TheVariants.{Defender}
 use Rattle.stones.specs.Piles.{tree, flag, code_of, IsPile, reading, pile_of}
 
 -- what a tree shows
@@ -43,14 +43,14 @@ falls (suc (suc n)) b h =
 
 over : (n : ℕ) (b : Bool) → n ≤ 4 → ended (state (tree n b)) ≡ true → length (next (tree n b)) ≡ 0
 over zero b h e = refl
-over (suc zero) true h e = let z : ◌≡◌ {A = ℕ} 0 1 = cc in absurd (omega arith)
-over (suc zero) false h e = let z : ◌≡◌ {A = ℕ} 0 1 = cc in absurd (omega arith)
-over (suc (suc n)) true h e = let z : ◌≡◌ {A = ℕ} 0 1 = cc in absurd (omega arith)
-over (suc (suc n)) false h e = let z : ◌≡◌ {A = ℕ} 0 1 = cc in absurd (omega arith)
+over (suc zero) true h e = absurd (cc)
+over (suc zero) false h e = absurd (cc)
+over (suc (suc n)) true h e = absurd (cc)
+over (suc (suc n)) false h e = absurd (cc)
 
 alive : (n : ℕ) (b : Bool) → n ≤ 4 → ended (state (tree n b)) ≡ false → (0 < length (next (tree n b))) × (0 < rank (tree n b))
-alive zero true h e = let z : ◌≡◌ {A = ℕ} 0 1 = cc in absurd (omega arith)
-alive zero false h e = let z : ◌≡◌ {A = ℕ} 0 1 = cc in absurd (omega arith)
+alive zero true h e = absurd (cc)
+alive zero false h e = absurd (cc)
 alive (suc zero) b h e = (lit< tt, lit< tt)
 alive (suc (suc n)) b h e = (lit< tt, omega arith)
 
@@ -113,35 +113,57 @@ codes t u p q e = subst (λ v. Alike t v) same (alike t)
 abbrev First : Tree → Type 0
 First t = (n : ℕ) × (n ≤ 4) × (t ≡ tree n true)
 
-digit : (b : Bool) (d : ℕ) (t : Tree) → (b ≡ true → d ≤ 52) → cond b (position (tree (d - 48) true)) (refused Form 0) ≡ position t → First t
+digit : (b : Bool) (d : ℕ) (t : Tree) → (b ≡ true → d ≤ 52) → cond b (position (tree (d - 48) true)) (refused 8 0) ≡ position t → First t
 digit true d t h e = let k = h refl in (d - 48, omega arith, cc)
-digit false d t h e = let z : ◌≡◌ {A = ℕ} 0 1 = cc in absurd (omega arith)
+digit false d t h e = absurd (cc)
 
-neither : (b : Bool) (t : Tree) → cond b (refused Form 1) (refused Form 0) ≡ position t → First t
-neither true t e = let z : ◌≡◌ {A = ℕ} 0 1 = cc in absurd (omega arith)
-neither false t e = let z : ◌≡◌ {A = ℕ} 0 1 = cc in absurd (omega arith)
+neither : (b : Bool) (t : Tree) → cond b (refused 8 1) (refused 8 0) ≡ position t → First t
+neither true t e = absurd (cc)
+neither false t e = absurd (cc)
 
 piled : (x : List ℕ) (t : Tree) → pile_of x ≡ position t → First t
-piled [] t e = let z : ◌≡◌ {A = ℕ} 0 1 = cc in absurd (omega arith)
+piled [] t e = absurd (cc)
 piled (d ∷ []) t e = digit (nat_le 48 d && nat_le d 52) d t (λ k. leb-true d 52 (and_parts (nat_le 48 d) (nat_le d 52) k).1) e
 piled (d ∷ c ∷ x) t e = neither (nat_le 48 d && nat_le d 52) t e
 
-read : (x : List ℕ) (b : Bool) (t : Tree) → cond b (pile_of x) (refused Aim 0) ≡ position t → First t
+read : (x : List ℕ) (b : Bool) (t : Tree) → cond b (pile_of x) (refused 7 0) ≡ position t → First t
 read x true t e = piled x t e
-read x false t e = let z : ◌≡◌ {A = ℕ} 0 1 = cc in absurd (omega arith)
+read x false t e = absurd (cc)
 
 first_attacks : (n : ℕ) → state (tree n true) ≢ Defender
-first_attacks zero e = let z : ◌≡◌ {A = ℕ} 0 1 = cc in omega arith
-first_attacks (suc zero) e = let z : ◌≡◌ {A = ℕ} 0 1 = cc in omega arith
-first_attacks (suc (suc n)) e = let z : ◌≡◌ {A = ℕ} 0 1 = cc in omega arith
+first_attacks zero e = cc
+first_attacks (suc zero) e = cc
+first_attacks (suc (suc n)) e = cc
+
+-- what is refused
+
+misread : (x : List ℕ) (n k : ℕ) → pile_of x ≡ refused n k → (8 ≡ n) × (k ≤ length x)
+misread [] n k e = let z : 0 ≡ k = cc in (cc, omega arith)
+misread (d ∷ []) n k e = by (nat_le 48 d && nat_le d 52) e
+  where
+    by : (b : Bool) → cond b (position (tree (d - 48) true)) (refused 8 0) ≡ refused n k → (8 ≡ n) × (k ≤ 1)
+    by true q = absurd (cc)
+    by false q = let z : 0 ≡ k = cc in (cc, omega arith)
+misread (d ∷ c ∷ x) n k e = by (nat_le 48 d && nat_le d 52) e
+  where
+    by : (b : Bool) → cond b (refused 8 1) (refused 8 0) ≡ refused n k → (8 ≡ n) × (k ≤ length (d ∷ c ∷ x))
+    by true q = let z : 1 ≡ k = cc in (cc, omega arith)
+    by false q = let z : 0 ≡ k = cc in (cc, omega arith)
+
+refusal : (x : List ℕ) (aim n k : ℕ) → reading x aim ≡ refused n k → Refusal x n k
+refusal x aim n k = by (aim == 0)
+  where
+    by : (b : Bool) → cond b (pile_of x) (refused 7 0) ≡ refused n k → Refusal x n k
+    by true e = let m = misread x n k e in record { caused = (Form, m.0); placed = m.1; at_start = λ f. absurd (f (sym m.0)) }
+    by false e = let z : 0 ≡ k = cc in record { caused = (Aim, cc); placed = omega arith; at_start = λ _. sym z }
 
 pub rules : Rules (tree 4 true) IsPile 4 2 reading
 rules = record {
   begun = pile 4 true (omega arith);
-  opens = first_attacks 4;
   reads = λ x aim t e. let f = read x (aim == 0) t e in record { left = f.0; attackers = true; few = f.1; is = f.2 };
   attacks = λ x aim t e k. let f = read x (aim == 0) t e in first_attacks f.0 (ap state (sym f.2) ∙ k);
   closed = at (λ t. AllByRecursion IsPile (next t)) closed;
+  refuses = refusal;
   over = at (λ t. ended (state t) ≡ true → length (next t) ≡ 0) over;
   alive = λ t p e. (at (λ t. ended (state t) ≡ false → (0 < length (next t)) × (0 < rank t)) alive t p e).0;
   narrow = at (λ t. length (next t) ≤ 2) narrow;

@@ -3,7 +3,6 @@ use Rattle.std.specs.Prelude.{◌≡◌, ℕ, zero, suc, ◌-◌, ◌≤◌, Boo
 use Rattle.game.specs.Tree.{Tree, Reading, node, none, move, position, refused}
 use Rattle.game.specs.declared.state.State.{State}
 use Rattle.game.specs.declared.state.State.TheVariants.{Won, NotWon, Attacker, Defender}
-use Rattle.game.specs.declared.decline.Decline.TheVariants.{Aim, Form}
 use Rattle.stones.specs.declared.pile.Pile.{Pile}
 
 -- the side to move, the attacker where b is true; with no stone left the other side has won
@@ -43,11 +42,11 @@ pub record IsPile (t : Tree) : Type 0 where
   pub few : left ≤ 4
   pub is : t ≡ tree left attackers
 
--- a text is one digit from 0 to 4, and the aim is 0; the side to move attacks
+-- a text that is not one digit from 0 to 4 is number 8, an aim that is not 0 is number 7; the side to move attacks
 abbrev pub pile_of : List ℕ → Reading
-pile_of [] = refused Form 0
-pile_of (d ∷ []) = cond (nat_le 48 d && nat_le d 52) (position (tree (d - 48) true)) (refused Form 0)
-pile_of (d ∷ e ∷ x) = cond (nat_le 48 d && nat_le d 52) (refused Form 1) (refused Form 0)
+pile_of [] = refused 8 0
+pile_of (d ∷ []) = cond (nat_le 48 d && nat_le d 52) (position (tree (d - 48) true)) (refused 8 0)
+pile_of (d ∷ e ∷ x) = cond (nat_le 48 d && nat_le d 52) (refused 8 1) (refused 8 0)
 
 abbrev pub reading : List ℕ → ℕ → Reading
-reading x aim = cond (aim == 0) (pile_of x) (refused Aim 0)
+reading x aim = cond (aim == 0) (pile_of x) (refused 7 0)

@@ -1,0 +1,8 @@
+-- What a game may need at most: the moves that can be played one after the other, and the pair records that a trial or a solution is lent at least.
+use Rattle.std.specs.Prelude.{ℕ}
+
+abbrev pub depth_limit : ℕ
+depth_limit = 32
+
+abbrev pub records_needed : ℕ
+records_needed = 6144

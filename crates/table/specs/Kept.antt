@@ -1,15 +1,15 @@
--- What the slots of the newest policy hold after a store, a clear and a making.
-use Rattle.std.specs.Prelude.{◌≡◌, ℕ, ◌<◌, ◌≤◌, Bool, true, false, cond, ◌⊎◌, List, ◌++◌, length, get_or, take, replicate, Some, None, fold, Option, ◌==◌, ◌≢◌, slice_index_or, slice_set, refl}
+-- What the slots of the newest policy show after a store, a clear and a making.
+use Rattle.std.specs.Prelude.{◌≡◌, ℕ, ◌<◌, ◌≤◌, Bool, true, false, cond, ◌⊎◌, List, length, get_or, replicate, Some, None, fold, Option, ◌==◌, ◌≢◌, slice_index_or, slice_set, refl}
 use Rattle.std.proofs.Common.{arith, sym, ap, ◌∙◌, inl, inr, get_or-set_same, get_or-set_other}
 use Rattle.std.proofs.Math.Path.{fun_ext}
 use borrow.Author.Tests.{eqb-true, eqb-false}
 use Rattle.std.specs.Str.{bytes_eq}
-use Rattle.std.proofs.lemmas.List.{take_at, get_or-replicate}
+use Rattle.std.proofs.lemmas.List.{get_or-replicate}
 use Rattle.std.proofs.lemmas.Slice.Eq.{bytes_eq-Decides}
 use Rattle.std.proofs.lemmas.Nat.{and_le_r}
 use Rattle.table.specs.declared.pair.Pair.{Pair}
-use Rattle.table.specs.declared.slot.Slot.{Slot}
-use Rattle.table.specs.Pairs.{Code, Held}
+use Rattle.table.specs.declared.newest.Slot.{Slot}
+use Rattle.table.specs.Pairs.{Code, Shown, nothing}
 use Rattle.table.specs.Slots.{mixed, slot_of, kept_in, empty, in_slots, newest}
 
 pub same_self : (c : Code) → bytes_eq c c ≡ true
@@ -29,10 +29,10 @@ slot_within c = omega (arith, and_le_r (fold mixed 0 c) 511)
 pub put_same : (xs : List Slot) (s : Slot) (i j : ℕ) → i < length xs → i ≡ j → slice_index_or (slice_set xs i s) j empty ≡ s
 put_same xs s i j h e = ap (λ k. get_or (slice_set xs i s) k empty) (sym e) ∙ get_or-set_same xs i s empty h
 
-pub own_code : (h : Held) (c : Code) (p : Pair) → newest h c p c ≡ Some p
+pub own_code : (h : Shown) (c : Code) (p : Pair) → newest h c p c ≡ Some p
 own_code h c p = rw (same_self c)
 
-pub other_code : (h : Held) (c d : Code) (p : Pair) → (c ≢ d) → (newest h c p d ≡ h d) ⊎ (newest h c p d ≡ None)
+pub other_code : (h : Shown) (c d : Code) (p : Pair) → (c ≢ d) → (newest h c p d ≡ h d) ⊎ (newest h c p d ≡ None)
 other_code h c d p n =
     rw (same_apart c d n)
     (elim (slot_of c == slot_of d) as (λ b. (cond b None (h d) ≡ h d) ⊎ (cond b None (h d) ≡ None)) [ true ↦ inr refl | false ↦ inl refl ])
@@ -58,13 +58,10 @@ none_kept : (b : Bool) (o : Option Pair) → o ≡ None → cond b o None ≡ No
 none_kept true o e = e
 none_kept false o e = refl
 
-pub all_clear : (xs ys : List Slot) (n : ℕ) → n ≡ 512 → length xs ≡ n → ((k : ℕ) → k < n → (get_or xs k empty).pair ≡ None) → (c : Code) → in_slots (take n (xs ++ ys)) c ≡ None
-all_clear xs ys n e l h c =
-    ap (λ zs. in_slots zs c) (take_at xs ys n l)
-    ∙ none_kept (bytes_eq (get_or xs (slot_of c) empty).code c) (get_or xs (slot_of c) empty).pair (h (slot_of c) (omega (arith, slot_within c)))
+pub all_clear : (xs : List Slot) (n : ℕ) → 512 ≤ n → ((k : ℕ) → k < n → (get_or xs k empty).pair ≡ None) → in_slots xs ≡ nothing
+all_clear xs n e h = fun_ext (λ c.
+    none_kept (bytes_eq (get_or xs (slot_of c) empty).code c) (get_or xs (slot_of c) empty).pair (h (slot_of c) (omega (arith, slot_within c))))
 
 -- `n` is 512, and no numeral, since a list of 512 slots would be written out
-pub new_clear : (xs : List Slot) (s : Slot) (n : ℕ) → 512 ≤ n → s.pair ≡ None → xs ≡ replicate n s → (c : Code) → in_slots xs c ≡ None
-new_clear xs s n m q e c =
-    let h : slot_of c < n = omega (arith, slot_within c) in
-    ap (λ zs. in_slots zs c) e ∙ ap (λ t. kept_in t c) (get_or-replicate n (slot_of c) s empty h) ∙ none_kept (bytes_eq s.code c) s.pair q
+pub new_clear : (s : Slot) (n : ℕ) → 512 ≤ n → s.pair ≡ None → in_slots (replicate n s) ≡ nothing
+new_clear s n m q = all_clear (replicate n s) n m (λ k h. ap (λ (t : Slot). t.pair) (get_or-replicate n k s empty h) ∙ q)

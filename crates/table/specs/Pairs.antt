@@ -1,4 +1,4 @@
--- Pairs as the side to move sees them, and what a table holds.
+-- Pairs as the side to move sees them, and what a table shows.
 use Rattle.std.specs.Prelude.{◌≡◌, ℕ, T, List, None, Option}
 use mathlib.Core.HLevel.{is_prop→PathP}
 use Rattle.std.proofs.Math.Dec.{T_prop}
@@ -40,12 +40,12 @@ facing Defender n k f = record { proof = k; disproof = n; formed = exchanged n k
 abbrev pub Code : Type 0
 Code = List ℕ
 
--- what a table holds: for each code a pair or none
-abbrev pub Held : Type 0
-Held = Code → Option Pair
+-- what a table shows: for each code a pair or none
+abbrev pub Shown : Type 0
+Shown = Code → Option Pair
 
--- nothing is held
-abbrev pub nothing : Held
+-- nothing is shown
+abbrev pub nothing : Shown
 nothing c = None
 
 -- two pairs are equal if their numbers are

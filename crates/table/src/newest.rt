@@ -1,20 +1,30 @@
-ghost use Rattle.std.specs.Prelude.{◌≡◌, ◌<◌, IfOk, None};
-ghost use Rattle.std.specs.Borrow.{sem, follows};
-ghost use Rattle.table.specs.Slots.{slot_of, in_slots, newest};
-ghost use Rattle.table.specs.Pairs.{Code};
-ghost use Rattle.std.specs.Vec.{with_item};
-ghost use Rattle.table.specs.contracts.slot.Newest.{the_row as newest_row};
-ghost use Rattle.table.specs.contracts.slot.Slot.{the_row as slot_row};
+ghost use Rattle.std.specs.Prelude.{◌≡◌, ◌<◌, length, refl};
+ghost use Rattle.std.specs.Borrow.{sem};
+ghost use Rattle.table.specs.Loans.{LendsPlace};
+ghost use Rattle.table.specs.Policies.{newest_storing};
+ghost use Rattle.table.specs.Slots.{slot_of, in_slots};
+ghost use Rattle.table.specs.Pairs.{nothing};
 ghost use Rattle.std.proofs.Common.{inl};
 ghost use Rattle.table.specs.Kept.{own_code, other_code};
 
-use crate::slot::{Newest, Slot};
 use crate::{Pair, Table};
-use std::alloc::{AllocError, Global};
 
-// The number of the slot of a code: a mix of its five words.
+// One place of the table: the last pair stored there and the code that it is of.
+#[derive(Clone, Copy)]
+struct Slot {
+    code: [u64; 5],
+    pair: Option<Pair>,
+}
+
+/// 512 slots; a code has its pair in one of them, and a store overwrites what is there. The slots lie in the table itself.
+#[derive(Drop)]
+pub struct Newest {
+    slots: [Slot; 512],
+}
+
+/// The number of the slot of a code, below 512: a mix of its five words.
 #[tactic(auto, unfolding(crate::specs::Slots::slot_of, crate::specs::Slots::mixed, crate::specs::Slots::turned))]
-fn slot_number(code: &[u64; 5]) -> usize
+pub fn slot_of(code: &[u64; 5]) -> usize
     ensures at { result ≡ slot_of code.now }
     ensures within { result < 512 }
 {
@@ -26,49 +36,60 @@ fn slot_number(code: &[u64; 5]) -> usize
     (mix & 511) as usize
 }
 
-impl Newest {
-    /// A table that holds nothing. `Err` exactly where there is no memory for its 512 slots.
-    pub fn new(heap: Global) -> Result<Newest, AllocError>
-        ensures { IfOk result (λ t. (c : Code) → in_slots t.slots.items c ≡ None) }
-    {
-        let slots = vec![in heap; Slot {
-            code: [0; 5],
-            pair: None
-        }; 512]?;
-        Ok(Newest { slots })
-    }
+// Lends one of the slots, to be overwritten. It goes over the slice of them all: the kit follows no loan of an array's place through the struct
+// that the array stands in.
+fn lend(slots: &mut [Slot], i: usize) -> &mut Slot
+    requires { i < length slots.old }
+    ensures* { sem 𝓛 (LendsPlace slots.entry i result) }
+{
+    &mut slots[i]
+}
 
-    // Lends the slot of a code.
-    fn slot(&mut self, code: &[u64; 5]) -> &mut Slot
-        ensures* { sem 𝓛 (follows newest_row slot_row self.entry.ghost_name result.ghost_name (λ w. record { slots = with_item self.old.slots (slot_of code.now) w; full = self.old.full })) }
+impl Newest {
+    /// A table that shows nothing.
+    pub fn new() -> Newest
+        ensures { ⟦<Newest as Table>⟧.standing result ≡ nothing }
     {
-        &mut self.slots[slot_number(code)]
+        let empty = Slot {
+            code: [0; 5],
+            pair: None,
+        };
+        Newest {
+            slots: [empty; 512],
+        }
+    }
+}
+
+/// A table that shows nothing.
+impl Default for Newest {
+    ghost is_default = { λ t. ⟦<Newest as Table>⟧.standing t ≡ nothing };
+
+    fn default() -> Newest {
+        Newest::new()
     }
 }
 
 impl Table for Newest {
-    ghost held = { λ t. in_slots t.slots.items };
+    ghost storing = { newest_storing };
 
-    ghost stored = { newest };
+    ghost standing = { λ t. in_slots t.slots };
 
-    ghost own = { λ h c p. inl (own_code h c p) };
-
-    ghost other = { other_code };
+    ghost keeping = { record { own = λ h c p. inl (own_code h c p); other = other_code; empties = λ _ _. refl } };
 
     fn look_up(&self, code: &[u64; 5]) -> Option<Pair> {
-        let slot = &self.slots[slot_number(code)];
+        let slot = &self.slots[slot_of(code)];
         if slot.code == *code { slot.pair } else { None }
     }
 
     fn store(&mut self, code: &[u64; 5], pair: Pair) {
-        *self.slot(code) = Slot {
+        *lend(&mut self.slots, slot_of(code)) = Slot {
             code: *code,
             pair: Some(pair),
         };
     }
 
     fn clear(&mut self) {
-        for slot in self.slots.iter_mut() {
+        for slot in &mut self.slots {
             slot.pair = None;
         }
     }

@@ -20,3 +20,9 @@ back_more (Err x) e es es' t ts t' ts' p h =
 pub back-all : {E : Type 0} (es : List E) (t : Tree) (ts : List Tree) → es ≡ [] → back (length es) t ts ≡ (t, ts)
 unfolding back
 back-all es t ts p = rw p
+
+-- one move is taken back
+pub one_back : {X : Type 0} (r : Result X Decline) (t : Tree) (ts : List Tree) (t' : Tree) (ts' : List Tree) → BackSays t ts t' ts' r →
+    ◌≡◌ {A = Tree × List Tree} (t', ts') (back 1 t ts)
+unfolding back
+one_back r t ts t' ts' h = sym (back_more r t (t ∷ []) [] t ts t' ts' refl h)

@@ -3,19 +3,19 @@ use Rattle.std.proofs.Common.{◌≡◌, ℕ, ◌<◌, ◌≤◌, List, [], ◌�
 use Rattle.std.specs.List.{AllByRecursion}
 use Rattle.std.proofs.ByRecursion.{All-get_or}
 use Rattle.game.specs.declared.decline.Decline.{Decline}
-use Rattle.game.specs.declared.decline.Decline.TheVariants.{MoveNumber, TakeBack}
+use Rattle.game.specs.Declines.{number}
 use Rattle.game.specs.Tree.{Tree, nowhere, rank, next}
 
 -- what the game says of a play of number i from t to t', and of a take-back; what the stack says of a push
 abbrev pub PlaySays : {X : Type 0} → ℕ → Tree → List Tree → Tree → List Tree → Result X Decline → Type 0
 PlaySays i t ts t' ts' r = MatchResult r
     (λ _. (i < length (next t)) × (t' ≡ get_or (next t) i nowhere) × (ts' ≡ t ∷ ts))
-    (λ e. (length (next t) ≤ i) × (t' ≡ t) × (ts' ≡ ts) × (e ≡ MoveNumber))
+    (λ e. (length (next t) ≤ i) × (t' ≡ t) × (ts' ≡ ts) × (number e ≡ 5))
 
 abbrev pub BackSays : {X : Type 0} → Tree → List Tree → Tree → List Tree → Result X Decline → Type 0
 BackSays t ts t' ts' r = MatchResult r
     (λ _. ts ≡ t' ∷ ts')
-    (λ e. (ts ≡ []) × (t' ≡ t) × (ts' ≡ []) × (e ≡ TakeBack))
+    (λ e. (ts ≡ []) × (t' ≡ t) × (ts' ≡ []) × (number e ≡ 6))
 
 abbrev pub PushSays : {X E : Type 0} → E → List E → ℕ → List E → Result X E → Type 0
 PushSays e es room es' r = MatchResult r

@@ -1,5 +1,5 @@
 -- The steps of the run over a stack and lent records, as facts of its model.
-use Rattle.std.proofs.Common.{◌≡◌, ℕ, zero, suc, ◌+◌, ◌-◌, ◌*◌, ◌<◌, ◌≤◌, Bool, true, false, List, [], ◌∷◌, map, length, get_or, take, drop, set, Ok, Err, Result, sym, refl, ap, ◌∙◌, subst, ap₂, subst₂, mul-le-mul_right, suc-mul, arith, length-take}
+use Rattle.std.proofs.Common.{◌≡◌, ℕ, zero, suc, ◌+◌, ◌-◌, ◌*◌, ◌<◌, ◌≤◌, Bool, true, false, List, [], ◌∷◌, map, length, get_or, take, drop, set, Result, sym, refl, ap, ◌∙◌, subst, ap₂, subst₂, mul-le-mul_right, suc-mul, arith, length-take}
 use borrow.Rule.Slice.PartMut.{put_mid}
 use Rattle.std.proofs.lemmas.List.{take-take, take-set-le, drop-set-add, length-map}
 use Rattle.std.proofs.lemmas.Slice.{between_is, take-put_mid_below, between-put_mid}
@@ -10,15 +10,15 @@ use Rattle.table.specs.declared.pair.Pair.{Pair}
 use Rattle.search_laws.specs.declared.thresholds.Thresholds.{Thresholds}
 use Rattle.table.specs.Numbers.{top}
 use Rattle.table.specs.Frames.{chosen_at, pair_at}
-use Rattle.table.specs.Pairs.{Held}
 use Rattle.search.specs.declared.frame.Frame.{Frame as Kept}
 use Rattle.search.specs.declared.frame.Step.{Step}
 use Rattle.search.specs.declared.frame.Step.TheVariants.{Enter, Work, Back}
-use Rattle.search_laws.specs.Run.{Storing, mover, Frame, reached_at, thresholds_at, listed, Outcome, stopped, gave, Course, on, enter, hand, turn, Runs, done, going, start}
+use Rattle.search_laws.specs.Run.{mover, Frame, reached_at, thresholds_at, listed, Outcome, stopped, gave, Course, on, enter, hand, turn, Runs, done, going, start}
+use Rattle.table.specs.Storings.{Storing}
 use Rattle.search.specs.Machine.{part, framed, frames, course, free, Fits, Waits, Under, Stands, work, Goes}
 use Rattle.search_laws.proofs.Taking.{chosen_in, thresholds-low}
 use Rattle.search.specs.Backs.{back}
-use Rattle.search.proofs.Moves.{PlaySays, BackSays, PushSays, played, pushed}
+use Rattle.search.proofs.Moves.{PlaySays, PushSays, played, pushed}
 
 -- parts of the records
 
@@ -70,10 +70,10 @@ entry-space r w b zero f k h = omega arith
 entry-space r w b (suc n) f k h =
     let a = child_space r 0 w b (suc n) (f (omega arith)) k h in omega arith
 
-module _ (S : Storing) (w : ℕ) (l : Thresholds) (t : Tree) (ts : List Tree) (rs ys : List Pair) (h : Held) (b c : ℕ) (side : Side)
+module _ (S : Storing) (w : ℕ) (l : Thresholds) (t : Tree) (ts : List Tree) (rs ys : List Pair) (h : S.Standing) (b c : ℕ) (side : Side)
     (wide : length (next t) ≤ w) (high : 0 < length (next t) → 0 < rank t)
     (count : c ≡ length (next t)) (sides : side ≡ mover (state t))
-    (listing : ys ≡ map (listed h) (next t)) (room : b + length (next t) ≤ length rs) where
+    (listing : ys ≡ map (listed (S.shows h)) (next t)) (room : b + length (next t) ≤ length rs) where
   abbrev entry : Kept
   entry = record { base = b; end = b + c; thresholds = l; side = side; chosen = 0 }
 
@@ -83,8 +83,8 @@ module _ (S : Storing) (w : ℕ) (l : Thresholds) (t : Tree) (ts : List Tree) (r
       let rs' : List Pair = put_mid b (b + c - b) rs ys in
       let below : b ≤ length rs = omega arith in
       let u = under_same w rs rs' es t ts t₀ ts₀ b (omega arith) (take-put_mid_below b (b + c - b) rs ys b (omega arith) below) st.4 in
-      let long : length ys ≡ b + c - b = ap length listing ∙ length-map (next t) (listed h) ∙ omega arith in
-      let mine : part entry rs' ≡ map (listed h) (next t) = between-put_mid b (b + c - b) rs ys (b + c) below long ∙ listing in
+      let long : length ys ≡ b + c - b = ap length listing ∙ length-map (next t) (listed (S.shows h)) ∙ omega arith in
+      let mine : part entry rs' ≡ map (listed (S.shows h)) (next t) = between-put_mid b (b + c - b) rs ys (b + c) below long ∙ listing in
       let space : b + rank t * w ≤ 6144 = omega (arith, st.3) in
       let inside : b + length (next t) ≤ 6144 = entry-space (rank t) w b (length (next t)) high wide space in
       let fits : Fits w entry t es = record {
@@ -97,9 +97,9 @@ module _ (S : Storing) (w : ℕ) (l : Thresholds) (t : Tree) (ts : List Tree) (r
         space = space;
         inside = omega arith;
       } in
-      let same : course (Work entry) es t ts rs' h n ≡ course (Enter l) es t ts rs h (suc n) =
+      let same : course S (Work entry) es t ts rs' h n ≡ course S (Enter l) es t ts rs h (suc n) =
       ap₂ (λ (ps : List Pair) (fs : List Frame). on h n (record { at = t; thresholds = l; pairs = ps }) fs) mine u.1 in
-      ((fits, u.0), λ o r. subst (λ (k : Course). Runs S k o) same r, omega arith)
+      ((fits, u.0), λ o r. subst (λ (k : Course S.Standing). Runs S k o) same r, omega arith)
 
   pub entered : (t' : Tree) (ts' : List Tree) → t' ≡ t → ts' ≡ ts
       → (es : List Kept) (n : ℕ) → b ≡ free es → Goes S w (Enter l) es t ts rs h (suc n) (Work entry) es t' ts' (put_mid b (b + c - b) rs ys) h n
@@ -107,7 +107,7 @@ module _ (S : Storing) (w : ℕ) (l : Thresholds) (t : Tree) (ts : List Tree) (r
 
 -- handing a pair to the frame below
 
-module _ (S : Storing) (w : ℕ) (p : Pair) (e : Kept) (t t' : Tree) (ts ts' : List Tree) (rs : List Pair) (h : Held) (es : List Kept) (n : ℕ) where
+module _ (S : Storing) (w : ℕ) (p : Pair) (e : Kept) (t t' : Tree) (ts' : List Tree) (rs : List Pair) (h : S.Standing) (es : List Kept) (n : ℕ) where
   hand_goes : Goes S w (Back p) (e ∷ es) t (t' ∷ ts') rs h n (Work e) es t' ts' (set rs (e.base + e.chosen) p) h n
   unfolding Goes Stands course work frames Under
   hand_goes t₀ ts₀ u =
@@ -115,36 +115,37 @@ module _ (S : Storing) (w : ℕ) (p : Pair) (e : Kept) (t t' : Tree) (ts ts' : L
       let k = under_same w rs rs' es t' ts' t₀ ts₀ e.base u.0.above (take-set-le e.base rs (e.base + e.chosen) p (omega arith)) u.2 in
       let mine : part e rs' ≡ set (part e rs) (chosen_at (mover (state t')) (part e rs)) p =
       part-set e rs p u.1.among ∙ ap (λ (i : ℕ). set (part e rs) i p) u.1.number in
-      let same : course (Work e) es t' ts' rs' h n ≡ course (Back p) (e ∷ es) t (t' ∷ ts') rs h n =
+      let same : course S (Work e) es t' ts' rs' h n ≡ course S (Back p) (e ∷ es) t (t' ∷ ts') rs h n =
       ap₂ (λ (ps : List Pair) (fs : List Frame). on h n (record { at = t'; thresholds = e.thresholds; pairs = ps }) fs) mine k.1 in
-      ((u.0, k.0), λ o r. subst (λ (x : Course). Runs S x o) same r, omega arith)
+      ((u.0, k.0), λ o r. subst (λ (x : Course S.Standing). Runs S x o) same r, omega arith)
 
-  pub handed : {X : Type 0} (r : Result X Decline) → BackSays t ts t' ts' r
-      → Goes S w (Back p) (e ∷ es) t ts rs h n (Work e) es t' ts' (set rs (e.base + e.chosen) p) h n
-  unfolding Goes Stands Under
-  handed (Ok x) q t₀ ts₀ st = rw q (hand_goes t₀ ts₀ (rw q at st))
-  handed (Err x) q t₀ ts₀ st = let z = q.0 in let u : Under w (e ∷ es) t [] rs t₀ ts₀ = rw z at st in absurd u
+  pub handed : (us : List Tree) (rs' : List Pair) → ◌≡◌ {A = Tree × List Tree} (t', ts') (back 1 t us) → rs' ≡ set rs (e.base + e.chosen) p
+      → Goes S w (Back p) (e ∷ es) t us rs h n (Work e) es t' ts' rs' h n
+  unfolding Goes Stands Under back
+  handed [] rs' q r t₀ ts₀ st = absurd st
+  handed (u ∷ us) rs' q r t₀ ts₀ st =
+      rw r (subst (λ (x : Tree × List Tree). Goes S w (Back p) (e ∷ es) t (x.0 ∷ x.1) rs h n (Work e) es t' ts' (set rs (e.base + e.chosen) p) h n) q hand_goes t₀ ts₀ st)
 
 -- the frame at work: giving its pair
 
-module _ (S : Storing) (w : ℕ) (e : Kept) (es : List Kept) (t : Tree) (ts : List Tree) (rs : List Pair) (h : Held) (n : ℕ) where
-  pub given : (q : Pair) (c : List ℕ) (h' : Held) → q ≡ pair_at e.side (part e rs) → reached_at e.thresholds q ≡ true → c ≡ code t → h' ≡ S h c q
+module _ (S : Storing) (w : ℕ) (e : Kept) (es : List Kept) (t : Tree) (ts : List Tree) (rs : List Pair) (h : S.Standing) (n : ℕ) where
+  pub given : (q : Pair) (c : List ℕ) (h' : S.Standing) → q ≡ pair_at e.side (part e rs) → reached_at e.thresholds q ≡ true → c ≡ code t → h' ≡ S.stored h c q
       → Goes S w (Work e) es t ts rs h n (Back q) es t ts rs h' n
   unfolding Goes Stands course work
-  given q c h' is reach coded held t₀ ts₀ st =
+  given q c h' is reach coded store t₀ ts₀ st =
       let P : Pair = pair_at (mover (state t)) (part e rs) in
       let same : q ≡ P = is ∙ ap (λ (s : Side). pair_at s (part e rs)) st.0.side in
       let reach' : reached_at e.thresholds P ≡ true = ap (reached_at e.thresholds) (sym same) ∙ reach in
-      let kept : h' ≡ S h (code t) P = held ∙ ap₂ (S h) coded same in (
+      let kept : h' ≡ S.stored h (code t) P = store ∙ ap₂ (S.stored h) coded same in (
         st.1,
         λ o r. going (subst (λ (z : Bool). Runs S (turn S z h n (framed e t rs) (frames es ts rs)) o) (sym reach')
-            (subst₂ (λ (x : Held) (p : Pair). Runs S (hand x n p (frames es ts rs)) o) kept same r)),
+            (subst₂ (λ (x : S.Standing) (p : Pair). Runs S (hand x n p (frames es ts rs)) o) kept same r)),
         omega arith,
       )
 
 -- the frame at work: taking a successor
 
-module _ (S : Storing) (w : ℕ) (e : Kept) (es : List Kept) (t : Tree) (ts : List Tree) (rs : List Pair) (h : Held) (n : ℕ) (q : Pair) (l : Thresholds) (k : ℕ)
+module _ (S : Storing) (w : ℕ) (e : Kept) (es : List Kept) (t : Tree) (ts : List Tree) (rs : List Pair) (h : S.Standing) (n : ℕ) (q : Pair) (l : Thresholds) (k : ℕ)
     (wide : length (next t) ≤ w)
     (falls : (i : ℕ) → i < length (next t) → rank (get_or (next t) i nowhere) < rank t)
     (is : q ≡ pair_at e.side (part e rs)) (no : reached_at e.thresholds q ≡ false)
@@ -184,7 +185,7 @@ module _ (S : Storing) (w : ℕ) (e : Kept) (es : List Kept) (t : Tree) (ts : Li
       let space = child_space (rank t) (rank (get_or (next t) k nowhere)) w e.base (length (next t)) less wide f.space in (
         (rw limits small.0, rw limits small.1, omega (arith, f.places), omega (arith, f.ends), (fits, waits, st.1)),
         λ o r. going (subst (λ (z : Bool). Runs S (turn S z h n (framed e t rs) (frames es ts rs)) o) (sym no')
-            (subst₂ (λ (x : ℕ) (p : Thresholds). Runs S (enter h n (get_or (next t) x nowhere) p (framed e t rs ∷ frames es ts rs)) o) number' limits' r)),
+            (subst₂ (λ (x : ℕ) (p : Thresholds). Runs S (enter S h n (get_or (next t) x nowhere) p (framed e t rs ∷ frames es ts rs)) o) number' limits' r)),
         omega arith,
       )
 
@@ -211,46 +212,46 @@ under_back w rs (e ∷ es) t (v ∷ ts) t₀ ts₀ u = under_back w rs es v ts t
 -- the loop
 
 -- a step from where the loop stands, by the equations that the program has
-pub went : (S : Storing) (w : ℕ) (s s₁ s' : Step) (es es₁ es' : List Kept) (t t' : Tree) (ts ts' : List Tree) (rs rs' : List Pair) (h h' : Held) (n n₁ n' : ℕ)
-    (t₀ : Tree) (ts₀ : List Tree) (from : Course) → s ≡ s₁ → es ≡ es₁ → n ≡ n₁
-    → Stands w s es t ts rs t₀ ts₀ → ((o : Outcome) → Runs S (course s es t ts rs h n) o → Runs S from o)
+pub went : (S : Storing) (w : ℕ) (s s₁ s' : Step) (es es₁ es' : List Kept) (t t' : Tree) (ts ts' : List Tree) (rs rs' : List Pair) (h h' : S.Standing) (n n₁ n' : ℕ)
+    (t₀ : Tree) (ts₀ : List Tree) (from : Course S.Standing) → s ≡ s₁ → es ≡ es₁ → n ≡ n₁
+    → Stands w s es t ts rs t₀ ts₀ → ((o : Outcome S.Standing) → Runs S (course S s es t ts rs h n) o → Runs S from o)
     → Goes S w s₁ es₁ t ts rs h n₁ s' es' t' ts' rs' h' n'
-    → Stands w s' es' t' ts' rs' t₀ ts₀ × ((o : Outcome) → Runs S (course s' es' t' ts' rs' h' n') o → Runs S from o) × (work s' es' n' < work s es n)
+    → Stands w s' es' t' ts' rs' t₀ ts₀ × ((o : Outcome S.Standing) → Runs S (course S s' es' t' ts' rs' h' n') o → Runs S from o) × (work s' es' n' < work s es n)
 unfolding Goes
 went S w s s₁ s' es es₁ es' t t' ts ts' rs rs' h h' n n₁ n' t₀ ts₀ from p q m st lead go =
     let k : (t₀ : Tree) (ts₀ : List Tree) → Stands w s es t ts rs t₀ ts₀
-    → Stands w s' es' t' ts' rs' t₀ ts₀ × ((o : Outcome) → Runs S (course s' es' t' ts' rs' h' n') o → Runs S (course s es t ts rs h n) o) × (work s' es' n' < work s es n)
+    → Stands w s' es' t' ts' rs' t₀ ts₀ × ((o : Outcome S.Standing) → Runs S (course S s' es' t' ts' rs' h' n') o → Runs S (course S s es t ts rs h n) o) × (work s' es' n' < work s es n)
     = rw (p, q, m) go in
     let r = k t₀ ts₀ st in
     (r.0, λ o x. lead o (r.1 o x), r.2)
 
-pub started : (S : Storing) (w d : ℕ) (es : List Kept) (t : Tree) (ts : List Tree) (rs : List Pair) (h : Held) (n : ℕ)
+pub started : (S : Storing) (w d : ℕ) (es : List Kept) (t : Tree) (ts : List Tree) (rs : List Pair) (h : S.Standing) (n : ℕ)
     → es ≡ [] → rank t ≤ d → d ≤ 32 → d * w ≤ 6144
     → Stands w (Enter (record { proof = top; disproof = top })) es t ts rs t ts
-    × ((o : Outcome) → Runs S (course (Enter (record { proof = top; disproof = top })) es t ts rs h n) o → Runs S (start h n t) o)
+    × ((o : Outcome S.Standing) → Runs S (course S (Enter (record { proof = top; disproof = top })) es t ts rs h n) o → Runs S (start S h n t) o)
 unfolding Stands course frames Under
 started S w d es t ts rs h n p low deep small =
     let m = mul-le-mul_right w low in
     rw p ((omega arith, omega arith, omega arith, omega arith, (refl, refl)), λ o r. r)
 
-pub stopping : (S : Storing) (w : ℕ) (s : Step) (l : Thresholds) (es : List Kept) (t : Tree) (ts : List Tree) (rs : List Pair) (h : Held) (n : ℕ)
-    (t₀ : Tree) (ts₀ : List Tree) (from : Course) → s ≡ Enter l → n ≡ 0
-    → Stands w s es t ts rs t₀ ts₀ → ((o : Outcome) → Runs S (course s es t ts rs h n) o → Runs S from o)
+pub stopping : (S : Storing) (w : ℕ) (s : Step) (l : Thresholds) (es : List Kept) (t : Tree) (ts : List Tree) (rs : List Pair) (h : S.Standing) (n : ℕ)
+    (t₀ : Tree) (ts₀ : List Tree) (from : Course S.Standing) → s ≡ Enter l → n ≡ 0
+    → Stands w s es t ts rs t₀ ts₀ → ((o : Outcome S.Standing) → Runs S (course S s es t ts rs h n) o → Runs S from o)
     → Under w es t ts rs t₀ ts₀ × Runs S from (stopped h)
 unfolding Stands course
 stopping S w s l es t ts rs h n t₀ ts₀ from p z st lead =
     let k : Stands w (Enter l) es t ts rs t₀ ts₀ = rw p at st in
-    let r : (o : Outcome) → Runs S (course (Enter l) es t ts rs h 0) o → Runs S from o = rw (p, z) at lead in
+    let r : (o : Outcome S.Standing) → Runs S (course S (Enter l) es t ts rs h 0) o → Runs S from o = rw (p, z) at lead in
     (k.4, r (stopped h) done)
 
-pub giving : (S : Storing) (w : ℕ) (s : Step) (p : Pair) (es : List Kept) (t : Tree) (ts : List Tree) (rs : List Pair) (h : Held) (n : ℕ)
-    (t₀ : Tree) (ts₀ : List Tree) (from : Course) → s ≡ Back p → es ≡ []
-    → Stands w s es t ts rs t₀ ts₀ → ((o : Outcome) → Runs S (course s es t ts rs h n) o → Runs S from o)
+pub giving : (S : Storing) (w : ℕ) (s : Step) (p : Pair) (es : List Kept) (t : Tree) (ts : List Tree) (rs : List Pair) (h : S.Standing) (n : ℕ)
+    (t₀ : Tree) (ts₀ : List Tree) (from : Course S.Standing) → s ≡ Back p → es ≡ []
+    → Stands w s es t ts rs t₀ ts₀ → ((o : Outcome S.Standing) → Runs S (course S s es t ts rs h n) o → Runs S from o)
     → ((t ≡ t₀) × (ts ≡ ts₀)) × Runs S from (gave h n p)
 unfolding Stands course Under frames
 giving S w s p es t ts rs h n t₀ ts₀ from e z st lead =
     let k : Stands w (Back p) [] t ts rs t₀ ts₀ = rw (e, z) at st in
-    let r : (o : Outcome) → Runs S (course (Back p) [] t ts rs h n) o → Runs S from o = rw (e, z) at lead in
+    let r : (o : Outcome S.Standing) → Runs S (course S (Back p) [] t ts rs h n) o → Runs S from o = rw (e, z) at lead in
     (k, r (gave h n p) done)
 
 -- what the steps ask

@@ -1,15 +1,16 @@
 -- The run over a stack and lent records: what they stand for, and what a step of the program keeps.
 use Rattle.std.specs.Prelude.{◌≡◌, ℕ, ◌+◌, ◌*◌, ◌<◌, ◌≤◌, List, [], ◌∷◌, length}
 use Rattle.std.specs.List.{between}
+use Rattle.game.specs.Limits.{depth_limit, records_needed}
 use Rattle.game.specs.Tree.{Tree, state, rank, next}
 use Rattle.table.specs.declared.pair.Pair.{Pair}
 use Rattle.table.specs.Numbers.{top}
 use Rattle.table.specs.Frames.{chosen_at}
-use Rattle.table.specs.Pairs.{Held}
 use Rattle.search.specs.declared.frame.Frame.{Frame as Kept}
 use Rattle.search.specs.declared.frame.Step.{Step}
 use Rattle.search.specs.declared.frame.Step.TheVariants.{Enter, Work, Back}
-use Rattle.search_laws.specs.Run.{Storing, mover, Frame, Outcome, Course, on, enter, hand, Runs}
+use Rattle.search_laws.specs.Run.{mover, Frame, Outcome, Course, on, enter, hand, Runs}
+use Rattle.table.specs.Storings.{Storing}
 
 -- a frame's successors' pairs: its part of the records
 abbrev pub part : Kept → List Pair → List Pair
@@ -26,10 +27,10 @@ frames (e ∷ es) [] rs = []
 frames (e ∷ es) (t ∷ ts) rs = framed e t rs ∷ frames es ts rs
 
 -- where the run stands
-unfoldable pub course : Step → List Kept → Tree → List Tree → List Pair → Held → ℕ → Course
-course (Enter l) es t ts rs h n = enter h n t l (frames es ts rs)
-course (Work e) es t ts rs h n = on h n (framed e t rs) (frames es ts rs)
-course (Back p) es t ts rs h n = hand h n p (frames es ts rs)
+unfoldable pub course : (S : Storing) → Step → List Kept → Tree → List Tree → List Pair → S.Standing → ℕ → Course S.Standing
+course S (Enter l) es t ts rs h n = enter S h n t l (frames es ts rs)
+course S (Work e) es t ts rs h n = on h n (framed e t rs) (frames es ts rs)
+course S (Back p) es t ts rs h n = hand h n p (frames es ts rs)
 
 -- the first record that no frame has
 abbrev pub free : List Kept → ℕ
@@ -43,9 +44,9 @@ pub record Fits (w : ℕ) (e : Kept) (t : Tree) (es : List Kept) : Type 0 where
   pub above : free es ≤ e.base
   pub proof : e.thresholds.proof ≤ top
   pub disproof : e.thresholds.disproof ≤ top
-  pub places : rank t + length es ≤ 32
-  pub space : e.base + rank t * w ≤ 6144
-  pub inside : e.end ≤ 6144
+  pub places : rank t + length es ≤ depth_limit
+  pub space : e.base + rank t * w ≤ records_needed
+  pub inside : e.end ≤ records_needed
 
 -- a frame that waits for its successor has taken the one that it must take
 pub record Waits (e : Kept) (t : Tree) (rs : List Pair) : Type 0 where
@@ -61,7 +62,7 @@ Under w (e ∷ es) t (u ∷ ts) rs t₀ ts₀ = Fits w e u es × Waits e u rs ×
 -- the stack, the path and the records fit together
 unfoldable pub Stands : ℕ → Step → List Kept → Tree → List Tree → List Pair → Tree → List Tree → Type 0
 Stands w (Enter l) es t ts rs t₀ ts₀ =
-    (l.proof ≤ top) × (l.disproof ≤ top) × (rank t + length es ≤ 32) × (free es + rank t * w ≤ 6144) × Under w es t ts rs t₀ ts₀
+    (l.proof ≤ top) × (l.disproof ≤ top) × (rank t + length es ≤ depth_limit) × (free es + rank t * w ≤ records_needed) × Under w es t ts rs t₀ ts₀
 Stands w (Work e) es t ts rs t₀ ts₀ = Fits w e t es × Under w es t ts rs t₀ ts₀
 Stands w (Back p) es t ts rs t₀ ts₀ = Under w es t ts rs t₀ ts₀
 
@@ -72,10 +73,10 @@ work (Work e) es n = 3 + 2 * length es + 4 * n
 work (Back p) es n = 2 + 2 * length es + 4 * n
 
 -- A step of the program, from any start: all still fits, the run from there is the rest of the run from here, and less is left to do.
-unfoldable pub Goes : Storing → ℕ → Step → List Kept → Tree → List Tree → List Pair → Held → ℕ
-    → Step → List Kept → Tree → List Tree → List Pair → Held → ℕ → Type 0
+unfoldable pub Goes : (S : Storing) → ℕ → Step → List Kept → Tree → List Tree → List Pair → S.Standing → ℕ
+    → Step → List Kept → Tree → List Tree → List Pair → S.Standing → ℕ → Type 0
 Goes S w s es t ts rs h n s' es' t' ts' rs' h' n' =
     (t₀ : Tree) (ts₀ : List Tree) → Stands w s es t ts rs t₀ ts₀
     → Stands w s' es' t' ts' rs' t₀ ts₀
-    × ((o : Outcome) → Runs S (course s' es' t' ts' rs' h' n') o → Runs S (course s es t ts rs h n) o)
+    × ((o : Outcome S.Standing) → Runs S (course S s' es' t' ts' rs' h' n') o → Runs S (course S s es t ts rs h n) o)
     × (work s' es' n' < work s es n)

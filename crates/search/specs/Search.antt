@@ -1,5 +1,6 @@
 -- What the plain search still has to do, from its stack and its path.
 use Rattle.std.specs.Prelude.{◌≡◌, ℕ, zero, suc, ◌+◌, ◌<◌, ◌≤◌, Bool, true, false, cond, List, [], ◌∷◌, length}
+use Rattle.game.specs.Limits.{depth_limit}
 use Rattle.game.specs.Tree.{Tree, Moves, node, none, move, rank, moves, next, minimax, some_won, all_won}
 use Rattle.table.specs.declared.side.Side.{Side}
 use Rattle.table.specs.declared.side.Side.TheVariants.{Attacker as Attacks, Defender as Defends}
@@ -81,7 +82,7 @@ work (Back s) es t ts = 1 + rest (below es ts)
 unfoldable pub Leads : List Entry → Tree → List Tree → Tree → List Tree → Type 0
 Leads [] t ts t₀ ts₀ = (t ≡ t₀) × (ts ≡ ts₀)
 Leads (e ∷ es) t [] t₀ ts₀ = ⊥
-Leads (e ∷ es) t (u ∷ ts) t₀ ts₀ = (rank u + length es ≤ 32) × (e.count ≡ length (next u)) × Leads es u ts t₀ ts₀
+Leads (e ∷ es) t (u ∷ ts) t₀ ts₀ = (rank u + length es ≤ depth_limit) × (e.count ≡ length (next u)) × Leads es u ts t₀ ts₀
 
 abbrev pub goal : Tree → Result
 goal t = result (minimax t) (need t)
@@ -89,9 +90,9 @@ goal t = result (minimax t) (need t)
 -- the stack, the path and the entries taken so far fit a search from t₀, with the path ts₀ before it
 unfoldable pub Holds : Turn → List Entry → Tree → List Tree → ℕ → Tree → List Tree → Type 0
 Holds Look es t ts n t₀ ts₀ =
-    (rank t + length es ≤ 32) × Leads es t ts t₀ ts₀ × (final (below es ts) (minimax t) (n + need t) ≡ goal t₀)
+    (rank t + length es ≤ depth_limit) × Leads es t ts t₀ ts₀ × (final (below es ts) (minimax t) (n + need t) ≡ goal t₀)
 Holds (Try e) es t ts n t₀ ts₀ =
-    (rank t + length es ≤ 32) × (e.count ≡ length (next t)) × Leads es t ts t₀ ts₀
+    (rank t + length es ≤ depth_limit) × (e.count ≡ length (next t)) × Leads es t ts t₀ ts₀
     × (final (below es ts) (value (open_at e t)) (n + cost (open_at e t)) ≡ goal t₀)
 Holds (Back s) es t ts n t₀ ts₀ = Leads es t ts t₀ ts₀ × (final (below es ts) (wins s) n ≡ goal t₀)
 

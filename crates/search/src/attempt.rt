@@ -1,5 +1,6 @@
 ghost use Rattle.std.specs.Prelude.{◌≡◌};
-ghost use Rattle.search_laws.specs.Trial.{decided, known, Trial};
+ghost use Rattle.game.specs.Tree.{code};
+ghost use Rattle.search_laws.specs.Trial.{decided, known, pair_of, Trial};
 ghost use Rattle.search_laws.specs.Calls.{Tried, Right};
 
 use crate::budget::Budget;
@@ -24,15 +25,15 @@ fn decided_verdict(pair: Pair) -> Option<Verdict>
     None
 }
 
-// The verdict that needs no search: of an ended position, or one whose decided pair the table holds.
+// The verdict where nothing has to be searched: the position has ended, or the table shows a decided pair for it.
 fn known_verdict<G: Game, T: Table>(game: &G, table: &T) -> Option<Verdict>
-    ensures { result ≡ known (T.held table.now) (G.current game.now) }
+    ensures { result ≡ known (T.storing.shows (T.standing table.now)) (G.current game.now) }
 {
     known_pair(game, table).and_then(decided_verdict)
 }
 
-/// A trial on the current position, from the table, with a budget and the records that it may use. Declined with `Decline::Budget` where the
-/// budget is above 99,999,999, and else with `Decline::Records` where the records are fewer than 6,144.
+/// A trial on the current position, from where the table stands, with a budget and the records that it may use. Declined with
+/// `Decline::Budget` where the budget is above 99,999,999, and else with `Decline::Records` where the records are fewer than 6,144.
 pub fn trial<G: Game, T: Table>(
     game: &mut G,
     table: &mut T,
@@ -41,14 +42,21 @@ pub fn trial<G: Game, T: Table>(
 ) -> Result<Answer, Decline>
     ensures at { G.current game.new ≡ G.current game.old }
     ensures path { G.earlier game.new ≡ G.earlier game.old }
-    ensures right { Right G.Game.positions (T.held table.old) (G.current game.old) budget result (T.held table.new) }
-    ensures tried { Tried T.Table.stored (T.held table.old) (G.current game.old) budget records.old result (T.held table.new) records.new }
+    ensures right { Right G.positions T.storing (T.standing table.old) (G.current game.old) budget result (T.standing table.new) }
+    ensures tried { Tried T.storing (T.standing table.old) (G.current game.old) budget records.old result (T.standing table.new) records.new }
 {
     let budget = Budget::new(budget)?;
     let Some(records) = records.first_chunk_mut() else {
         return Err(Decline::Records);
     };
     Ok(try_position(game, table, budget, records))
+}
+
+// Stores the value of the current position.
+fn store_value<G: Game, T: Table>(game: &G, table: &mut T, won: bool)
+    ensures { T.standing table.new ≡ T.storing.stored (T.standing table.old) (code (G.current game.now)) (pair_of won) }
+{
+    table.store(&game.code(), Pair::of(won));
 }
 
 /// The trial that is never declined: what is known already, else the run with half of the budget, else the plain search with the rest.
@@ -61,7 +69,7 @@ pub fn try_position<G: Game, T: Table>(
 ) -> Answer
     ensures at { G.current game.new ≡ G.current game.old }
     ensures path { G.earlier game.new ≡ G.earlier game.old }
-    ensures tried { Trial T.Table.stored (T.held table.old) (G.current game.old) budget.amount result (T.held table.new) }
+    ensures tried { Trial T.storing (T.standing table.old) (G.current game.old) budget.amount result (T.standing table.new) }
 {
     if let Some(verdict) = known_verdict(game, table) {
         return Answer {
@@ -82,7 +90,7 @@ pub fn try_position<G: Game, T: Table>(
     }
     match plain_search(game, share) {
         Some(found) => {
-            table.store(&game.code(), Pair::of(found.won));
+            store_value(game, table, found.won);
             Answer {
                 verdict: Verdict::of(found.won),
                 expansions: half,

@@ -1,4 +1,6 @@
 ghost use Rattle.std.specs.Prelude.{◌≡◌, ◌<◌, ◌≤◌, MatchResult};
+ghost use Rattle.game.specs.Declines.{number};
+ghost use Rattle.search_laws.specs.Calls.{budget_limit};
 
 use game::Decline;
 
@@ -9,7 +11,7 @@ pub const MOST: u32 = 99_999_999;
 #[derive(Clone, Copy, PartialEq, Eq, Debug)]
 pub struct Budget {
     amount: u32,
-    ghost within: { amount ≤ 99999999 },
+    ghost within: { amount ≤ budget_limit },
 }
 
 impl Budget {
@@ -17,7 +19,7 @@ impl Budget {
     pub fn new(amount: u32) -> Result<Budget, Decline>
         ensures { MatchResult result
             (λ budget. budget.amount ≡ amount)
-            (λ cause. (99999999 < amount) × (cause ≡ Decline.Budget)) }
+            (λ cause. (budget_limit < amount) × (number cause ≡ 1)) }
     {
         if amount > MOST {
             return Err(Decline::Budget);
@@ -28,7 +30,7 @@ impl Budget {
     /// How many expansions and entries it allows.
     pub fn amount(self) -> u32
         ensures is { result ≡ self.amount }
-        ensures within { result ≤ 99999999 }
+        ensures within { result ≤ budget_limit }
     {
         self.amount
     }

@@ -1,10 +1,9 @@
-ghost use Rattle.std.specs.Prelude.{◌≡◌, ℕ, suc, ◌+◌, ◌<◌, ◌≤◌, List, ◌∷◌, length, slice_set};
-ghost use Rattle.game.specs.Tree.{next};
+ghost use Rattle.std.specs.Prelude.{◌≡◌, ℕ, suc, ◌+◌, ◌<◌, ◌≤◌, List, length, slice_set};
+ghost use Rattle.game.specs.Tree.{Tree, next};
 ghost use Rattle.stack.specs.Contents.{contents, room};
-ghost use Rattle.table.specs.Pairs.{Held};
 ghost use Rattle.search.specs.declared.frame.Frame.{Frame as Kept};
-ghost use Rattle.search.specs.declared.frame.Step.TheVariants.{Enter, Work, Back};
-ghost use Rattle.search_laws.specs.Run.{Storing};
+ghost use Rattle.search.specs.declared.frame.Step.TheVariants.{Enter, Work};
+ghost use Rattle.search.specs.Backs.{back};
 ghost use Rattle.search.specs.Machine.{free, Goes};
 ghost use Rattle.search.specs.Finishes.{Finished};
 
@@ -46,9 +45,9 @@ fn enter<G: Game, T: Table>(
     thresholds: Thresholds,
 ) -> Frame
     requires { base + length (next (G.current game.old)) ≤ length records.old }
-    ensures { (es : List Kept) (n : ℕ) → base ≡ free es → Goes T.Table.stored G.Game.width
-        (Enter thresholds) es (G.current game.old) (G.earlier game.old) records.old (T.held table.now) (suc n)
-        (Work result) es (G.current game.new) (G.earlier game.new) records.new (T.held table.now) n }
+    ensures { (es : List Kept) (n : ℕ) → base ≡ free es → Goes T.storing G.width
+        (Enter thresholds) es (G.current game.old) (G.earlier game.old) records.old (T.standing table.now) (suc n)
+        (Work result) es (G.current game.new) (G.earlier game.new) records.new (T.standing table.now) n }
 {
     let end = base + game.count();
     list_pairs(game, table, &mut records[base..end]);
@@ -66,9 +65,7 @@ fn enter<G: Game, T: Table>(
 fn hand_back<G: Game>(game: &mut G, records: &mut [Pair], frame: Frame, pair: Pair)
     requires { frame.base + frame.chosen < length records.old }
     ensures rewrites { records.new ≡ slice_set records.old (frame.base + frame.chosen) pair }
-    ensures goes { (S : Storing) (h : Held) (es : List Kept) (n : ℕ) → Goes S G.Game.width
-        (Back pair) (frame ∷ es) (G.current game.old) (G.earlier game.old) records.old h n
-        (Work frame) es (G.current game.new) (G.earlier game.new) records.new h n }
+    ensures takes_back { ◌≡◌ {A = Tree × List Tree} (G.current game.new, G.earlier game.new) (back 1 (G.current game.old) (G.earlier game.old)) }
 {
     let _ = game.take_back();
     records[frame.base + frame.chosen] = pair;
@@ -87,9 +84,9 @@ fn work<G: Game, T: Table>(
     requires room { room stack.old ≡ 32 }
     requires order { frame.base ≤ frame.end }
     requires inside { frame.end ≤ length records.now }
-    ensures goes { (n : ℕ) → Goes T.Table.stored G.Game.width
-        (Work frame) (contents stack.old) (G.current game.old) (G.earlier game.old) records.now (T.held table.old) n
-        result (contents stack.new) (G.current game.new) (G.earlier game.new) records.now (T.held table.new) n }
+    ensures goes { (n : ℕ) → Goes T.storing G.width
+        (Work frame) (contents stack.old) (G.current game.old) (G.earlier game.old) records.now (T.standing table.old) n
+        result (contents stack.new) (G.current game.new) (G.earlier game.new) records.now (T.standing table.new) n }
     ensures room { room stack.new ≡ 32 }
 {
     let base = frame.base;
@@ -117,7 +114,7 @@ pub(crate) fn run<G: Game, T: Table>(
 ) -> Option<Given>
     ensures at { G.current game.new ≡ G.current game.old }
     ensures path { G.earlier game.new ≡ G.earlier game.old }
-    ensures run { Finished T.Table.stored (T.held table.old) left (G.current game.old) result (T.held table.new) }
+    ensures run { Finished T.storing (T.standing table.old) left (G.current game.old) result (T.standing table.new) }
 {
     let mut room = [NO_FRAME; 32];
     let mut stack = Stack::new(&mut room);

@@ -11,11 +11,12 @@ use Rattle.table.specs.declared.pair.Pair.{Pair}
 use Rattle.table.specs.declared.side.Side.{Side}
 use Rattle.table.specs.declared.side.Side.TheVariants.{Attacker as Attacks, Defender as Defends}
 use Rattle.table.specs.Numbers.{top, least}
-use Rattle.table.specs.Pairs.{Code, Held, won, own, against}
+use Rattle.table.specs.Pairs.{Code, Shown, won, own, against}
 use Rattle.table.specs.Frames.{owns, againsts, pair_at}
+use Rattle.table.specs.Storings.{Storing, Keeping}
 use Rattle.search_laws.specs.declared.thresholds.Thresholds.{Thresholds}
-use Rattle.search_laws.specs.Run.{Storing, mover, Frame, pair, reached, chosen, taken, thresholds_below, or_fresh, listed, Outcome, stopped, gave, Course, over, on, enter, hand, turn, Runs, done, going}
-use Rattle.search_laws.specs.Claims.{Keeping, Ranging, Agrees, Sound, Active, RunsAreRight}
+use Rattle.search_laws.specs.Run.{mover, Frame, pair, reached, chosen, taken, thresholds_below, or_fresh, listed, Outcome, stopped, gave, Course, over, on, enter, hand, turn, Runs, done, going}
+use Rattle.search_laws.specs.Claims.{Ranging, Agrees, Sound, Active, RunsAreRight}
 use Rattle.search_laws.proofs.Numbers.{Fits, Fit, some_yes, some_no, all_yes, all_no, first-at, capped-top, fit_length, fit_at, fit-set}
 use Rattle.search_laws.proofs.Taking.{Low, below_top, chosen_in, thresholds-low}
 
@@ -70,68 +71,68 @@ module _ (positions : Tree → Type 0) where
   Under t u [] = u ≡ t
   Under t u (f ∷ fs) = Good f × (u ≡ taken f) × Under t f.at fs
 
-  abbrev pub Stands : Tree → Course → Type 0
-  Stands t (over (stopped held)) = Sound positions held
-  Stands t (over (gave held left p)) = Sound positions held × Agrees t p
-  Stands t (on held left f below) = Sound positions held × Good f × Under t f.at below
+  abbrev pub Stands : (S : Storing) → Tree → Course S.Standing → Type 0
+  Stands S t (over (stopped standing)) = Sound positions (S.shows standing)
+  Stands S t (over (gave standing left p)) = Sound positions (S.shows standing) × Agrees t p
+  Stands S t (on standing left f below) = Sound positions (S.shows standing) × Good f × Under t f.at below
 
-module _ (positions : Tree → Type 0) (ranging : Ranging positions) (stored : Storing) (keeping : Keeping stored) where
-  pub sound_stored : (held : Held) (t : Tree) (p : Pair) → Sound positions held → positions t → Agrees t p → Sound positions (stored held (code t) p)
-  sound_stored held t p s i a u j q e = go (List-discrete ℕ_discrete (code t) (code u))
+module _ (positions : Tree → Type 0) (ranging : Ranging positions) (S : Storing) (keeping : Keeping S) where
+  pub sound_stored : (standing : S.Standing) (t : Tree) (p : Pair) → Sound positions (S.shows standing) → positions t → Agrees t p → Sound positions (S.shows (S.stored standing (code t) p))
+  sound_stored standing t p s i a u j q e = go (List-discrete ℕ_discrete (code t) (code u))
     where
-      new : code t ≡ code u → (stored held (code t) p (code t) ≡ Some p) ⊎ ((stored held (code t) p (code t) ≡ held (code t)) ⊎ (stored held (code t) p (code t) ≡ None)) → Agrees u q
+      new : code t ≡ code u → (S.shows (S.stored standing (code t) p) (code t) ≡ Some p) ⊎ ((S.shows (S.stored standing (code t) p) (code t) ≡ S.shows standing (code t)) ⊎ (S.shows (S.stored standing (code t) p) (code t) ≡ None)) → Agrees u q
       new c (inl k) =
           let same : t ≡ u = ranging.codes t u i j c in
-          let k' : stored held (code t) p (code u) ≡ Some p = subst (λ (x : Code). stored held (code t) p x ≡ Some p) c k in
-          let pq : p ≡ q = same_some (stored held (code t) p (code u)) p q k' e in
+          let k' : S.shows (S.stored standing (code t) p) (code u) ≡ Some p = subst (λ (x : Code). S.shows (S.stored standing (code t) p) x ≡ Some p) c k in
+          let pq : p ≡ q = same_some (S.shows (S.stored standing (code t) p) (code u)) p q k' e in
           subst (λ (x : Pair). Agrees u x) pq (subst (λ (x : Tree). Agrees x p) same a)
       new c (inr (inl k)) =
-          let k' : stored held (code t) p (code u) ≡ held (code u) = subst (λ (x : Code). stored held (code t) p x ≡ held x) c k in
+          let k' : S.shows (S.stored standing (code t) p) (code u) ≡ S.shows standing (code u) = subst (λ (x : Code). S.shows (S.stored standing (code t) p) x ≡ S.shows standing x) c k in
           s u j q (sym k' ∙ e)
       new c (inr (inr k)) =
-          let k' : stored held (code t) p (code u) ≡ None = subst (λ (x : Code). stored held (code t) p x ≡ None) c k in
+          let k' : S.shows (S.stored standing (code t) p) (code u) ≡ None = subst (λ (x : Code). S.shows (S.stored standing (code t) p) x ≡ None) c k in
           absurd (unequal_some q (sym k' ∙ e))
 
-      old : (stored held (code t) p (code u) ≡ held (code u)) ⊎ (stored held (code t) p (code u) ≡ None) → Agrees u q
+      old : (S.shows (S.stored standing (code t) p) (code u) ≡ S.shows standing (code u)) ⊎ (S.shows (S.stored standing (code t) p) (code u) ≡ None) → Agrees u q
       old (inl k) = s u j q (sym k ∙ e)
       old (inr k) = absurd (unequal_some q (sym k ∙ e))
 
       go : Dec (code t ≡ code u) → Agrees u q
-      go (yes c) = new c (keeping.own held (code t) p)
-      go (no c) = old (keeping.other held (code t) (code u) p c)
+      go (yes c) = new c (keeping.own standing (code t) p)
+      go (no c) = old (keeping.other standing (code t) (code u) p c)
 
   -- what a sound table lists is right
-  fresh_agrees : (held : Held) (u : Tree) → Sound positions held → positions u → (o : Option Pair) → held (code u) ≡ o → Agrees u (or_fresh o)
-  fresh_agrees held u s i (Some p) e = s u i p e
-  fresh_agrees held u s i None e = (λ z. let y = proof-of z in absurd (omega arith), λ z. let y = proof-of z in absurd (omega arith))
+  fresh_agrees : (standing : Shown) (u : Tree) → Sound positions standing → positions u → (o : Option Pair) → standing (code u) ≡ o → Agrees u (or_fresh o)
+  fresh_agrees standing u s i (Some p) e = s u i p e
+  fresh_agrees standing u s i None e = (λ z. let y = proof-of z in absurd (omega arith), λ z. let y = proof-of z in absurd (omega arith))
 
-  fits_listed : (held : Held) (u : Tree) → Sound positions held → positions u → Fits u (listed held u)
+  fits_listed : (standing : Shown) (u : Tree) → Sound positions standing → positions u → Fits u (listed standing u)
   unfolding minimax some_won all_won
-  fits_listed held (node Won r c m) s i =
+  fits_listed standing (node Won r c m) s i =
       record {
         agrees = (λ z. refl, λ z. let y = proof-of z in absurd (omega arith));
         ended_won = λ z. refl;
         ended_not = λ e. absurd (cc);
       }
-  fits_listed held (node NotWon r c m) s i =
+  fits_listed standing (node NotWon r c m) s i =
       record {
         agrees = (λ z. let y = proof-of z in absurd (omega arith), λ z. refl);
         ended_won = λ e. absurd (cc);
         ended_not = λ z. refl;
       }
-  fits_listed held (node Attacker r c m) s i = fits-active (node Attacker r c m) _ tt (fresh_agrees held (node Attacker r c m) s i (held c) refl)
-  fits_listed held (node Defender r c m) s i = fits-active (node Defender r c m) _ tt (fresh_agrees held (node Defender r c m) s i (held c) refl)
+  fits_listed standing (node Attacker r c m) s i = fits-active (node Attacker r c m) _ tt (fresh_agrees standing (node Attacker r c m) s i (standing c) refl)
+  fits_listed standing (node Defender r c m) s i = fits-active (node Defender r c m) _ tt (fresh_agrees standing (node Defender r c m) s i (standing c) refl)
 
-  fit_listed : (held : Held) → Sound positions held → (us : List Tree) → AllByRecursion positions us → Fit us (map (listed held) us)
-  fit_listed held s [] h = tt
-  fit_listed held s (u ∷ us) h = (fits_listed held u s h.0, fit_listed held s us h.1)
+  fit_listed : (standing : Shown) → Sound positions standing → (us : List Tree) → AllByRecursion positions us → Fit us (map (listed standing) us)
+  fit_listed standing s [] h = tt
+  fit_listed standing s (u ∷ us) h = (fits_listed standing u s h.0, fit_listed standing s us h.1)
 
   -- a frame that is entered is good
-  pub good_enter : (held : Held) (left : ℕ) (t u : Tree) (l : Thresholds) (below : List Frame) → Sound positions held →
-      positions u → Active (state u) → Low l → Under positions t u below → Stands positions t (enter held left u l below)
-  good_enter held zero t u l below s i a k d = s
-  good_enter held (suc left) t u l below s i a k d =
-      (s, record { place = i; active = a; low = k; fit = fit_listed held s (next u) (ranging.closed u i) }, d)
+  pub good_enter : (standing : S.Standing) (left : ℕ) (t u : Tree) (l : Thresholds) (below : List Frame) → Sound positions (S.shows standing) →
+      positions u → Active (state u) → Low l → Under positions t u below → Stands positions S t (enter S standing left u l below)
+  good_enter standing zero t u l below s i a k d = s
+  good_enter standing (suc left) t u l below s i a k d =
+      (s, record { place = i; active = a; low = k; fit = fit_listed (S.shows standing) s (next u) (ranging.closed u i) }, d)
 
   taken_good : (f : Frame) → Good positions f → reached f ≡ false → positions (taken f) × Active (state (taken f)) × Low (thresholds_below f)
   taken_good f g e =
@@ -152,10 +153,10 @@ module _ (positions : Tree → Type 0) (ranging : Ranging positions) (stored : S
         thresholds-low s f.thresholds ps g.low,
       )
 
-  good_hand : (held : Held) (left : ℕ) (t u : Tree) (p : Pair) (below : List Frame) → Sound positions held →
-      Active (state u) → Agrees u p → Under positions t u below → Stands positions t (hand held left p below)
-  good_hand held left t u p [] s a k d = (s, subst (λ (x : Tree). Agrees x p) d k)
-  good_hand held left t u p (f ∷ below) s a k d =
+  good_hand : (standing : S.Standing) (left : ℕ) (t u : Tree) (p : Pair) (below : List Frame) → Sound positions (S.shows standing) →
+      Active (state u) → Agrees u p → Under positions t u below → Stands positions S t (hand standing left p below)
+  good_hand standing left t u p [] s a k d = (s, subst (λ (x : Tree). Agrees x p) d k)
+  good_hand standing left t u p (f ∷ below) s a k d =
       let g = d.0 in (
         s,
         record {
@@ -167,21 +168,21 @@ module _ (positions : Tree → Type 0) (ranging : Ranging positions) (stored : S
         d.2,
       )
 
-  good_turn : (b : Bool) (held : Held) (left : ℕ) (t : Tree) (f : Frame) (below : List Frame) → reached f ≡ b →
-      Sound positions held → Good positions f → Under positions t f.at below → Stands positions t (turn stored b held left f below)
-  good_turn true held left t f below e s g d =
+  good_turn : (b : Bool) (standing : S.Standing) (left : ℕ) (t : Tree) (f : Frame) (below : List Frame) → reached f ≡ b →
+      Sound positions (S.shows standing) → Good positions f → Under positions t f.at below → Stands positions S t (turn S b standing left f below)
+  good_turn true standing left t f below e s g d =
       let a = pair-agrees f.at f.pairs g.active g.fit in
-      good_hand (stored held (code f.at) (pair f)) left t f.at (pair f) below
-      (sound_stored held f.at (pair f) s g.place a) g.active a d
-  good_turn false held left t f below e s g d =
+      good_hand (S.stored standing (code f.at) (pair f)) left t f.at (pair f) below
+      (sound_stored standing f.at (pair f) s g.place a) g.active a d
+  good_turn false standing left t f below e s g d =
       let k = taken_good f g e in
-      good_enter held left t (taken f) (thresholds_below f) (f ∷ below) s k.0 k.1 k.2 (g, refl, d)
+      good_enter standing left t (taken f) (thresholds_below f) (f ∷ below) s k.0 k.1 k.2 (g, refl, d)
 
-  pub good_run : (t : Tree) (c : Course) (o : Outcome) → Runs stored c o → Stands positions t c → Stands positions t (over o)
+  pub good_run : (t : Tree) (c : Course S.Standing) (o : Outcome S.Standing) → Runs S c o → Stands positions S t c → Stands positions S t (over o)
   good_run t c o done s = s
-  good_run t c o (going {held} {left} {f} {below} r) s = good_run t _ o r (good_turn (reached f) held left t f below refl s.0 s.1 s.2)
+  good_run t c o (going {standing} {left} {f} {below} r) s = good_run t _ o r (good_turn (reached f) standing left t f below refl s.0 s.1 s.2)
 
-  pub runs_are_right : RunsAreRight positions stored
-  runs_are_right held left t held' s i a =
-      let k = good_enter held left t t (record { proof = top; disproof = top }) [] s i a (omega arith, omega arith) refl in
+  pub runs_are_right : RunsAreRight positions S
+  runs_are_right standing left t standing' s i a =
+      let k = good_enter standing left t t (record { proof = top; disproof = top }) [] s i a (omega arith, omega arith) refl in
       (λ r. good_run t _ _ r k, λ left' p r. good_run t _ _ r k)

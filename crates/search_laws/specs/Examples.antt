@@ -4,16 +4,13 @@ use Rattle.std.specs.Prelude.{◌≡◌, ℕ, Bool, true, false, cond, ◌&&◌,
 use Rattle.game.specs.declared.state.State.TheVariants.{Won, NotWon, Attacker, Defender}
 use Rattle.game.specs.Tree.{Tree, node, none, move}
 use Rattle.table.specs.declared.pair.Pair.{Pair}
-use Rattle.table.specs.Pairs.{Code, Held, nothing, won}
-use Rattle.table.specs.Slots.{newest}
+use Rattle.table.specs.Pairs.{Code, Shown, nothing, won}
+use Rattle.table.specs.Policies.{none_storing, newest_storing}
+use Rattle.table.specs.Storings.{Storing}
 use Rattle.search_laws.specs.declared.answer.Verdict.{Verdict}
 use Rattle.search_laws.specs.declared.answer.Verdict.TheVariants.{Won as IsWon, NotWon as IsNotWon, Spent as IsSpent}
 use Rattle.search_laws.specs.declared.answer.Answer.{Answer}
-use Rattle.search_laws.specs.Run.{Storing}
 use Rattle.search_laws.specs.Trial.{Trial}
-
-abbrev pub forget : Storing
-forget held c p = λ d. None
 
 abbrev pub alike : Code → Code → Bool
 alike [] [] = true
@@ -22,7 +19,7 @@ alike (x ∷ xs) [] = false
 alike (x ∷ xs) (y ∷ ys) = x == y && alike xs ys
 
 abbrev pub keep : Storing
-keep held c p = λ d. cond (alike c d) (Some p) (held d)
+keep = record { Standing = Shown; shows = λ h. h; stored = λ shown c p d. cond (alike c d) (Some p) (shown d); cleared = λ _. nothing }
 
 abbrev pub answer : Verdict → ℕ → ℕ → Answer
 answer v x e = record { verdict = v; expansions = x; entries = e }
@@ -33,14 +30,14 @@ chain = node Attacker 2 (0 ∷ []) (move [] (node Defender 1 (1 ∷ []) (move []
 
 abbrev pub ChainTrials : Type 0
 ChainTrials =
-    Trial forget nothing chain 4 (answer IsNotWon 2 0) nothing
-    × Trial forget nothing chain 3 (answer IsNotWon 1 2) nothing
-    × Trial forget nothing chain 2 (answer IsSpent 1 1) nothing
+    Trial none_storing tt chain 4 (answer IsNotWon 2 0) tt
+    × Trial none_storing tt chain 3 (answer IsNotWon 1 2) tt
+    × Trial none_storing tt chain 2 (answer IsSpent 1 1) tt
 
 -- the second trial finds the decided pair of the first
 abbrev pub NewestTrials : Type 0
 NewestTrials =
-    (held : Held) × (Trial newest nothing chain 4 (answer IsNotWon 2 0) held) × (Trial newest held chain 4 (answer IsNotWon 0 0) held)
+    (standing : Shown) × (Trial newest_storing nothing chain 4 (answer IsNotWon 2 0) standing) × (Trial newest_storing standing chain 4 (answer IsNotWon 0 0) standing)
 
 abbrev pub p13 : Tree
 p13 = node NotWon 0 (13 ∷ []) none
@@ -90,9 +87,9 @@ p4 = node Defender 0 (4 ∷ []) (move [] p3 (move [] p3 none))
 abbrev pub p16 : Tree
 p16 = node Attacker 0 (16 ∷ []) (move [] p4 (move [] p15 none))
 
--- a trial with its answer, after which the table holds for the position's code what is given
+-- a trial with its answer, after which the table shows for the position's code what is given
 abbrev pub Tried : Tree → ℕ → Answer → Code → Option Pair → Type 0
-Tried t b a c o = (held : Held) × (Trial keep nothing t b a held) × (held c ≡ o)
+Tried t b a c o = (standing : Shown) × (Trial keep nothing t b a standing) × (standing c ≡ o)
 
 abbrev pub WideTrials : Type 0
 WideTrials =

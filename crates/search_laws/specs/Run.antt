@@ -7,13 +7,10 @@ use Rattle.table.specs.declared.pair.Pair.{Pair}
 use Rattle.table.specs.declared.side.Side.{Side}
 use Rattle.table.specs.declared.side.Side.TheVariants.{Attacker as Attacks, Defender as Defends}
 use Rattle.table.specs.Numbers.{top, capped, least, others}
-use Rattle.table.specs.Pairs.{Code, Held, won, not_won, fresh}
+use Rattle.table.specs.Pairs.{Shown, won, not_won, fresh}
 use Rattle.table.specs.Frames.{owns, againsts, chosen_at, pair_at}
+use Rattle.table.specs.Storings.{Storing}
 use Rattle.search_laws.specs.declared.thresholds.Thresholds.{Thresholds}
-
--- what a table keeps after a store
-abbrev pub Storing : Type 0
-Storing = Held → Code → Pair → Held
 
 -- the side to move; no frame belongs to a position that has ended
 abbrev pub mover : State → Side
@@ -78,44 +75,44 @@ listed_as NotWon o = not_won
 listed_as Attacker o = or_fresh o
 listed_as Defender o = or_fresh o
 
-abbrev pub listed : Held → Tree → Pair
-listed held t = listed_as (state t) (held (code t))
+abbrev pub listed : Shown → Tree → Pair
+listed shown t = listed_as (state t) (shown (code t))
 
--- How a run ends: stopped undecided, or the start position's frame has given its pair; with the table, and the expansions left.
-pub data Outcome : Type 0 where
-  stopped : Held → Outcome
-  gave : Held → ℕ → Pair → Outcome
+-- How a run ends: stopped undecided, or the start position's frame has given its pair; with where the table then stands, and the expansions left.
+pub data Outcome (A : Type 0) : Type 0 where
+  stopped : A → Outcome A
+  gave : A → ℕ → Pair → Outcome A
 
--- A run: over, or going on with the table, the expansions left, the frame at work, and the frames below it, the nearest first.
-pub data Course : Type 0 where
-  over : Outcome → Course
-  on : Held → ℕ → Frame → List Frame → Course
+-- A run: over, or going on with where the table stands, the expansions left, the frame at work, and the frames below it, the nearest first.
+pub data Course (A : Type 0) : Type 0 where
+  over : Outcome A → Course A
+  on : A → ℕ → Frame → List Frame → Course A
 
 -- A frame is to be entered: it costs an expansion, and where none is left the run stops.
-abbrev pub enter : Held → ℕ → Tree → Thresholds → List Frame → Course
-enter held zero t l below = over (stopped held)
-enter held (suc left) t l below = on held left (record { at = t; thresholds = l; pairs = map (listed held) (next t) }) below
+abbrev pub enter : (S : Storing) → S.Standing → ℕ → Tree → Thresholds → List Frame → Course S.Standing
+enter S standing zero t l below = over (stopped standing)
+enter S standing (suc left) t l below = on standing left (record { at = t; thresholds = l; pairs = map (listed (S.shows standing)) (next t) }) below
 
 -- A frame's pair is handed to the frame below, which replaces its record of that successor.
-abbrev pub hand : Held → ℕ → Pair → List Frame → Course
-hand held left p [] = over (gave held left p)
-hand held left p (f ∷ below) =
-    on held left (record { at = f.at; thresholds = f.thresholds; pairs = slice_set f.pairs (chosen f) p }) below
+abbrev pub hand : {A : Type 0} → A → ℕ → Pair → List Frame → Course A
+hand standing left p [] = over (gave standing left p)
+hand standing left p (f ∷ below) =
+    on standing left (record { at = f.at; thresholds = f.thresholds; pairs = slice_set f.pairs (chosen f) p }) below
 
 -- What the frame at work does: with a threshold reached it stores its pair by code and hands it on, else it takes a successor.
-abbrev pub turn : Storing → Bool → Held → ℕ → Frame → List Frame → Course
-turn stored true held left f below = hand (stored held (code f.at) (pair f)) left (pair f) below
-turn stored false held left f below = enter held left (taken f) (thresholds_below f) (f ∷ below)
+abbrev pub turn : (S : Storing) → Bool → S.Standing → ℕ → Frame → List Frame → Course S.Standing
+turn S true standing left f below = hand (S.stored standing (code f.at) (pair f)) left (pair f) below
+turn S false standing left f below = enter S standing left (taken f) (thresholds_below f) (f ∷ below)
 
-abbrev pub step : Storing → Held → ℕ → Frame → List Frame → Course
-step stored held left f below = turn stored (reached f) held left f below
+abbrev pub step : (S : Storing) → S.Standing → ℕ → Frame → List Frame → Course S.Standing
+step S standing left f below = turn S (reached f) standing left f below
 
 -- the outcome of a run
-pub data Runs (stored : Storing) : Course → Outcome → Type 0 where
-  done : {o : Outcome} → Runs stored (over o) o
-  going : {held : Held} {left : ℕ} {f : Frame} {below : List Frame} {o : Outcome} →
-      Runs stored (step stored held left f below) o → Runs stored (on held left f below) o
+pub data Runs (S : Storing) : Course S.Standing → Outcome S.Standing → Type 0 where
+  done : {o : Outcome S.Standing} → Runs S (over o) o
+  going : {standing : S.Standing} {left : ℕ} {f : Frame} {below : List Frame} {o : Outcome S.Standing} →
+      Runs S (step S standing left f below) o → Runs S (on standing left f below) o
 
 -- a run on a position: its frame has the thresholds `top` and `top`, and no frame below it
-abbrev pub start : Held → ℕ → Tree → Course
-start held left t = enter held left t (record { proof = top; disproof = top }) []
+abbrev pub start : (S : Storing) → S.Standing → ℕ → Tree → Course S.Standing
+start S standing left t = enter S standing left t (record { proof = top; disproof = top }) []

@@ -4,11 +4,12 @@ use Rattle.game.specs.declared.state.State.{State}
 use Rattle.game.specs.declared.state.State.TheVariants.{Won, NotWon, Attacker, Defender}
 use Rattle.game.specs.Tree.{Tree, Moves, node, none, move, state, code, minimax}
 use Rattle.table.specs.declared.pair.Pair.{Pair}
-use Rattle.table.specs.Pairs.{Held, won, not_won}
+use Rattle.table.specs.Pairs.{Shown, won, not_won}
+use Rattle.table.specs.Storings.{Storing}
 use Rattle.search_laws.specs.declared.answer.Verdict.{Verdict}
 use Rattle.search_laws.specs.declared.answer.Verdict.TheVariants.{Won as IsWon, NotWon as IsNotWon, Spent as IsSpent}
 use Rattle.search_laws.specs.declared.answer.Answer.{Answer}
-use Rattle.search_laws.specs.Run.{Storing, stopped, gave, Runs, start}
+use Rattle.search_laws.specs.Run.{stopped, gave, Runs, start}
 
 -- a value as a verdict and as a pair
 abbrev pub verdict_of : Bool → Verdict
@@ -30,15 +31,15 @@ abbrev pub decided_in : Option Pair → Option Verdict
 decided_in (Some p) = decided p
 decided_in None = None
 
--- the verdict that needs no search: of an ended position, or one whose decided pair the table holds
+-- the verdict that needs no search: of an ended position, or one whose decided pair the table shows
 abbrev pub known_as : State → Option Pair → Option Verdict
 known_as Won o = Some IsWon
 known_as NotWon o = Some IsNotWon
 known_as Attacker o = decided_in o
 known_as Defender o = decided_in o
 
-abbrev pub known : Held → Tree → Option Verdict
-known held t = known_as (state t) (held (code t))
+abbrev pub known : Shown → Tree → Option Verdict
+known shown t = known_as (state t) (shown (code t))
 
 -- The entries that the plain search needs: none if the position has ended, else 1 and what the successors need, in move order, up to
 -- the first that decides: a won one for the attacker, one not won for the defender.
@@ -63,17 +64,17 @@ half b = b / 2
 abbrev pub share : ℕ → ℕ
 share b = b - b / 2
 
--- A trial on a position with a table and a budget: its answer, and what the table then holds.
-pub data Trial (stored : Storing) (held : Held) (t : Tree) (b : ℕ) : Answer → Held → Type 0 where
-  at_once : {v : Verdict} → known held t ≡ Some v →
-      Trial stored held t b (record { verdict = v; expansions = 0; entries = 0 }) held
-  by_the_run : {v : Verdict} {held' : Held} {left : ℕ} {p : Pair} → known held t ≡ None →
-      Runs stored (start held (half b) t) (gave held' left p) → decided p ≡ Some v →
-      Trial stored held t b (record { verdict = v; expansions = half b - left; entries = 0 }) held'
-  by_the_search : {held' : Held} → known held t ≡ None →
-      Runs stored (start held (half b) t) (stopped held') → need t ≤ share b →
-      Trial stored held t b (record { verdict = verdict_of (minimax t); expansions = half b; entries = need t })
-      (stored held' (code t) (pair_of (minimax t)))
-  spent : {held' : Held} → known held t ≡ None →
-      Runs stored (start held (half b) t) (stopped held') → share b < need t →
-      Trial stored held t b (record { verdict = IsSpent; expansions = half b; entries = share b }) held'
+-- A trial on a position, from where a table stands, with a budget: its answer, and where the table then stands.
+pub data Trial (S : Storing) (standing : S.Standing) (t : Tree) (b : ℕ) : Answer → S.Standing → Type 0 where
+  at_once : {v : Verdict} → known (S.shows standing) t ≡ Some v →
+      Trial S standing t b (record { verdict = v; expansions = 0; entries = 0 }) standing
+  by_the_run : {v : Verdict} {standing' : S.Standing} {left : ℕ} {p : Pair} → known (S.shows standing) t ≡ None →
+      Runs S (start S standing (half b) t) (gave standing' left p) → decided p ≡ Some v →
+      Trial S standing t b (record { verdict = v; expansions = half b - left; entries = 0 }) standing'
+  by_the_search : {standing' : S.Standing} → known (S.shows standing) t ≡ None →
+      Runs S (start S standing (half b) t) (stopped standing') → need t ≤ share b →
+      Trial S standing t b (record { verdict = verdict_of (minimax t); expansions = half b; entries = need t })
+      (S.stored standing' (code t) (pair_of (minimax t)))
+  spent : {standing' : S.Standing} → known (S.shows standing) t ≡ None →
+      Runs S (start S standing (half b) t) (stopped standing') → share b < need t →
+      Trial S standing t b (record { verdict = IsSpent; expansions = half b; entries = share b }) standing'

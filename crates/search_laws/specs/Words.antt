@@ -1,4 +1,4 @@
--- The words in which a verdict is printed.
+-- The value of each verdict: the word in which it is printed.
 use Rattle.std.specs.Prelude.{ℕ, List, codes}
 use Rattle.search_laws.specs.declared.answer.Verdict.{Verdict}
 use Rattle.search_laws.specs.declared.answer.Verdict.TheVariants.{Won, NotWon, Spent}

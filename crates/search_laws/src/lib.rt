@@ -12,43 +12,44 @@ mod thresholds;
 pub use answer::{Answer, Verdict};
 pub use thresholds::Thresholds;
 
-/// From a sound table a run and a trial leave a sound table, the pair that the run gives is right, and a verdict won or not won is minimax's.
+/// Where a table shows no false decided pair, it shows none after a run or a trial; the pair that a run gives is right, and a verdict won or
+/// not won is minimax's.
 pub fn trials_are_right<G: Game, T: Table>()
-    ensures runs { RunsAreRight G.Game.positions T.Table.stored }
-    ensures trials { TrialsAreRight G.Game.positions T.Table.stored }
+    ensures runs { RunsAreRight G.positions T.storing }
+    ensures trials { TrialsAreRight G.positions T.storing }
 {}
 
 /// A run that gave a pair gives it with more expansions too, and a verdict won or not won stays with any larger budget.
 pub fn verdicts_last<G: Game, T: Table>()
-    ensures runs { RunsLast T.Table.stored }
-    ensures trials { VerdictsLast G.Game.positions T.Table.stored }
+    ensures runs { RunsLast T.storing }
+    ensures trials { VerdictsLast G.positions T.storing }
 {}
 
 /// A trial says spent only where the plain search needs more than its share.
 pub fn spent_is_meant<T: Table>()
-    ensures { SpentIsMeant T.Table.stored }
+    ensures { SpentIsMeant T.storing }
 {}
 
-/// A run has one outcome, and a trial one answer and one table after it.
+/// A run has one outcome, and a trial one answer and one standing of the table after it.
 pub fn trials_agree<T: Table>()
-    ensures runs { RunsAgree T.Table.stored }
-    ensures trials { TrialsAgree T.Table.stored }
+    ensures runs { RunsAgree T.storing }
+    ensures trials { TrialsAgree T.storing }
 {}
 
 /// Every run and every trial ends.
 pub fn trials_end<T: Table>()
-    ensures runs { RunsEnd T.Table.stored }
-    ensures trials { TrialsEnd T.Table.stored }
+    ensures runs { RunsEnd T.storing }
+    ensures trials { TrialsEnd T.storing }
 {}
 
 /// The pair that a run gives is decided.
 pub fn runs_decide<T: Table>()
-    ensures { RunsDecide T.Table.stored }
+    ensures { RunsDecide T.storing }
 {}
 
 /// A run through a frame goes as with no frames below it.
 pub fn frames_compose<T: Table>()
-    ensures { FramesCompose T.Table.stored }
+    ensures { FramesCompose T.storing }
 {}
 
 /// Trials by hand: a chain of two moves, the same twice with the newest policy, and a position with transpositions.

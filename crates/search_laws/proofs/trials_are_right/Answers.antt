@@ -7,6 +7,6 @@ pub returns : goal.returns
 returns g c =
     let positions = ranging g.met.G.Game.lawful in
     record {
-      runs = runs_are_right g.G.Game.positions positions g.T.Table.stored (record { own = g.met.T.Table.own; other = g.met.T.Table.other });
-      trials = trials_are_right_lem g.G.Game.positions positions g.T.Table.stored (record { own = g.met.T.Table.own; other = g.met.T.Table.other });
+      runs = runs_are_right g.G.Game.positions positions g.T.Table.storing g.met.T.Table.keeping;
+      trials = trials_are_right_lem g.G.Game.positions positions g.T.Table.storing g.met.T.Table.keeping;
     }

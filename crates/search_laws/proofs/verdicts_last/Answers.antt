@@ -5,6 +5,6 @@ use Rattle.search_laws.proofs.verdicts_last.Goals as goal
 pub returns : goal.returns
 returns g c =
     record {
-      runs = runs_last g.T.Table.stored;
-      trials = verdicts_last_lem g.G.Game.positions (ranging g.met.G.Game.lawful) g.T.Table.stored (record { own = g.met.T.Table.own; other = g.met.T.Table.other });
+      runs = runs_last g.T.Table.storing;
+      trials = verdicts_last_lem g.G.Game.positions (ranging g.met.G.Game.lawful) g.T.Table.storing g.met.T.Table.keeping;
     }

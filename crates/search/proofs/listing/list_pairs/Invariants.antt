@@ -7,4 +7,4 @@ abbrev pub invariant-loop-i : goal.invariant-loop-i
 invariant-loop-i g l =
     (g.G.Game.current l.game ≡ g.G.Game.current l.initial.game)
     × (g.G.Game.earlier l.game ≡ g.G.Game.earlier l.initial.game)
-    × (take l.i l.places ≡ map (listed (g.T.Table.held l.table)) (take l.i (next (g.G.Game.current l.initial.game))))
+    × (take l.i l.places ≡ map (listed (g.T.Table.storing.shows (g.T.Table.standing l.table))) (take l.i (next (g.G.Game.current l.initial.game))))

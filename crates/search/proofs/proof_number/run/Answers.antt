@@ -3,7 +3,7 @@ use Rattle.game.specs.Tree.{Tree}
 use Rattle.stack.specs.Contents.{contents}
 use Rattle.search.specs.declared.frame.Step.TheVariants.{Enter, Work, Back}
 use Rattle.search.proofs.Moves.{ranked_at}
-use Rattle.search.proofs.Steps.{under_back, went, started, stopping, giving, enter_asks, work_asks, hand_asks}
+use Rattle.search.proofs.Steps.{under_back, handed, went, started, stopping, giving, enter_asks, work_asks, hand_asks}
 use Rattle.search.proofs.proof_number.run.Goals as goal
 
 one_less : (n : ℕ) → (n ≡ 0 → ⊥) → n ≡ suc (n - 1)
@@ -13,13 +13,13 @@ pub loop-step-init : goal.loop-step-init
 loop-step-init g c =
     let t : Tree = g.G.Game.current c.args.game.now in
     let at = g.met.G.Game.within c.args.game.now in
-    let s = started g.T.Table.stored g.G.Game.width g.G.Game.depth _ t _ c.args.records.now (g.T.Table.held c.args.table.now) c.args.left
+    let s = started g.T.Table.storing g.G.Game.width g.G.Game.depth _ t _ c.args.records.now (g.T.Table.standing c.args.table.now) c.args.left
     c.new-stack.ensures.empty (g.met.G.Game.lawful.shallow t at) g.met.G.Game.lawful.low g.met.G.Game.lawful.small in
     (s.0, s.1, c.new-stack.ensures.room, omega arith)
 
 pub returns-then-rest-eq0 : goal.returns-then-rest-eq0
 returns-then-rest-eq0 g c =
-    let s = stopping g.T.Table.stored _ c.loop-step.step c.in-Enter.thresholds _ _ _ _ _ _ _ _ _ c.in-Enter.is c.if-rest-eq0.true
+    let s = stopping g.T.Table.storing _ c.loop-step.step c.in-Enter.thresholds _ _ _ _ _ _ _ _ _ c.in-Enter.is c.if-rest-eq0.true
     c.loop-step.invariant.0 c.loop-step.invariant.1 in
     let back = c.take_all_back.ensures.path ∙ under_back _ _ (contents c.loop-step.stack) _ _ _ _ s.0 in
     record { at = ap (λ (x : Tree × List Tree). x.0) back; path = ap (λ (x : Tree × List Tree). x.1) back; run = s.1 }
@@ -43,43 +43,45 @@ hand_back-requires g c =
 
 pub returns-in-None : goal.returns-in-None
 returns-in-None g c =
-    let s = giving g.T.Table.stored _ c.loop-step.step c.in-Back.pair _ _ _ _ _ _ _ _ _ c.in-Back.is c.in-None.ensures.popped.0
+    let s = giving g.T.Table.storing _ c.loop-step.step c.in-Back.pair _ _ _ _ _ _ _ _ _ c.in-Back.is c.in-None.ensures.popped.0
     c.loop-step.invariant.0 c.loop-step.invariant.1 in
     record { at = s.0.0; path = s.0.1; run = (c.loop-step.invariant.3, s.1) }
 
 pub loop-step-smaller-else-rest-eq0 : goal.loop-step-smaller-else-rest-eq0
 loop-step-smaller-else-rest-eq0 g c =
-    (went g.T.Table.stored _ c.loop-step.step (Enter c.in-Enter.thresholds) _ _ _ _ _ _ _ _ _ _ _ _ _ _ _ _ _ _
+    (went g.T.Table.storing _ c.loop-step.step (Enter c.in-Enter.thresholds) _ _ _ _ _ _ _ _ _ _ _ _ _ _ _ _ _ _
     c.in-Enter.is refl (one_less c.loop-step.rest c.if-rest-eq0.false) c.loop-step.invariant.0 c.loop-step.invariant.1
     (c.enter.ensures (contents c.loop-step.stack) (c.loop-step.rest - 1) c.first_free.ensures)).2
 
 pub loop-step-preserved-else-rest-eq0 : goal.loop-step-preserved-else-rest-eq0
 loop-step-preserved-else-rest-eq0 g c =
-    let k = went g.T.Table.stored _ c.loop-step.step (Enter c.in-Enter.thresholds) _ _ _ _ _ _ _ _ _ _ _ _ _ _ _ _ _ _
+    let k = went g.T.Table.storing _ c.loop-step.step (Enter c.in-Enter.thresholds) _ _ _ _ _ _ _ _ _ _ _ _ _ _ _ _ _ _
     c.in-Enter.is refl (one_less c.loop-step.rest c.if-rest-eq0.false) c.loop-step.invariant.0 c.loop-step.invariant.1
     (c.enter.ensures (contents c.loop-step.stack) (c.loop-step.rest - 1) c.first_free.ensures) in
     (k.0, k.1, c.loop-step.invariant.2, omega arith)
 
 pub loop-step-smaller-in-Work : goal.loop-step-smaller-in-Work
 loop-step-smaller-in-Work g c =
-    (went g.T.Table.stored _ c.loop-step.step (Work c.in-Work.frame) _ _ _ _ _ _ _ _ _ _ _ _ _ _ _ _ _ _
+    (went g.T.Table.storing _ c.loop-step.step (Work c.in-Work.frame) _ _ _ _ _ _ _ _ _ _ _ _ _ _ _ _ _ _
     c.in-Work.is refl refl c.loop-step.invariant.0 c.loop-step.invariant.1 (c.work-step.ensures.goes _)).2
 
 pub loop-step-preserved-in-Work : goal.loop-step-preserved-in-Work
 loop-step-preserved-in-Work g c =
-    let k = went g.T.Table.stored _ c.loop-step.step (Work c.in-Work.frame) _ _ _ _ _ _ _ _ _ _ _ _ _ _ _ _ _ _
+    let k = went g.T.Table.storing _ c.loop-step.step (Work c.in-Work.frame) _ _ _ _ _ _ _ _ _ _ _ _ _ _ _ _ _ _
     c.in-Work.is refl refl c.loop-step.invariant.0 c.loop-step.invariant.1 (c.work-step.ensures.goes _) in
     (k.0, k.1, c.work-step.ensures.room, c.loop-step.invariant.3)
 
 pub loop-step-smaller : goal.loop-step-smaller
 loop-step-smaller g c =
-    (went g.T.Table.stored _ c.loop-step.step (Back c.in-Back.pair) _ _ _ _ _ _ _ _ _ _ _ _ _ _ _ _ _ _
+    (went g.T.Table.storing _ c.loop-step.step (Back c.in-Back.pair) _ _ _ _ _ _ _ _ _ _ _ _ _ _ _ _ _ _
     c.in-Back.is c.in-Some.ensures.popped refl c.loop-step.invariant.0 c.loop-step.invariant.1
-    (c.hand_back.ensures.goes g.T.Table.stored _ _ _)).2
+    (handed g.T.Table.storing _ c.in-Back.pair c.in-Some.frame _ _ _ c.loop-step.records (g.T.Table.standing c.loop-step.table) _ c.loop-step.rest
+    _ _ c.hand_back.ensures.takes_back c.hand_back.ensures.rewrites)).2
 
 pub loop-step-preserved : goal.loop-step-preserved
 loop-step-preserved g c =
-    let k = went g.T.Table.stored _ c.loop-step.step (Back c.in-Back.pair) _ _ _ _ _ _ _ _ _ _ _ _ _ _ _ _ _ _
+    let k = went g.T.Table.storing _ c.loop-step.step (Back c.in-Back.pair) _ _ _ _ _ _ _ _ _ _ _ _ _ _ _ _ _ _
     c.in-Back.is c.in-Some.ensures.popped refl c.loop-step.invariant.0 c.loop-step.invariant.1
-    (c.hand_back.ensures.goes g.T.Table.stored _ _ _) in
+    (handed g.T.Table.storing _ c.in-Back.pair c.in-Some.frame _ _ _ c.loop-step.records (g.T.Table.standing c.loop-step.table) _ c.loop-step.rest
+    _ _ c.hand_back.ensures.takes_back c.hand_back.ensures.rewrites) in
     (k.0, k.1, c.pop.ensures.room ∙ c.loop-step.invariant.2, c.loop-step.invariant.3)

@@ -8,8 +8,8 @@ abbrev pub invariant-loop-step : goal.invariant-loop-step
 invariant-loop-step g l =
     Stands g.G.Game.width l.step (contents l.stack) (g.G.Game.current l.game) (g.G.Game.earlier l.game) l.records
     (g.G.Game.current l.initial.game) (g.G.Game.earlier l.initial.game)
-    × ((o : Outcome) → Runs g.T.Table.stored (course l.step (contents l.stack) (g.G.Game.current l.game) (g.G.Game.earlier l.game) l.records (g.T.Table.held l.table) l.rest) o
-    → Runs g.T.Table.stored (start (g.T.Table.held l.initial.table) l.left (g.G.Game.current l.initial.game)) o)
+    × ((o : Outcome g.T.Table.storing.Standing) → Runs g.T.Table.storing (course g.T.Table.storing l.step (contents l.stack) (g.G.Game.current l.game) (g.G.Game.earlier l.game) l.records (g.T.Table.standing l.table) l.rest) o
+    → Runs g.T.Table.storing (start g.T.Table.storing (g.T.Table.standing l.initial.table) l.left (g.G.Game.current l.initial.game)) o)
     × (room l.stack ≡ 32)
     × (l.rest ≤ l.left)
 

@@ -4,12 +4,12 @@ use Rattle.std.proofs.lemmas.List.{length_push}
 use Rattle.std.proofs.ByRecursion.{All-get_or}
 use Rattle.game.specs.Rules.{Rules}
 use Rattle.game.specs.Tree.{Tree, Moves, none, move, nowhere, successors, texts, Reading, next, rank}
-use Rattle.table.specs.Pairs.{Held}
+use Rattle.search_laws.specs.Calls.{budget_limit}
 use Rattle.search.specs.declared.budget.Budget.{Budget}
 use Rattle.search_laws.specs.declared.answer.Verdict.{Verdict}
 use Rattle.search_laws.specs.declared.answer.Verdict.TheVariants as verdict
 use Rattle.search_laws.specs.declared.answer.Answer.{Answer}
-use Rattle.search_laws.specs.Run.{Storing}
+use Rattle.table.specs.Storings.{Storing}
 use Rattle.search_laws.specs.Trial.{Trial, at_once, by_the_run, by_the_search, verdict_of}
 use Rattle.search_laws.specs.Trial as trial
 use Rattle.solution_laws.specs.Solution.{AllTried, no_more, tried, Stops, spent, later, cost, first_win, onward}
@@ -46,7 +46,7 @@ few {depth = depth} {width = width} rules t p =
     (λ l. let h = All-get_or (λ u. rank u < rank t) (next t) 0 nowhere l (rules.falls t p) in omega arith)
 
 -- a trial costs no more than its budget
-affordable : {stored : Storing} {held : Held} {t : Tree} {b : ℕ} {a : Answer} {held' : Held} → Trial stored held t b a held' → cost a ≤ b
+affordable : {S : Storing} {standing : S.Standing} {t : Tree} {b : ℕ} {a : Answer} {standing' : S.Standing} → Trial S standing t b a standing' → cost a ≤ b
 affordable (at_once k) = omega arith
 affordable {b = b} (by_the_run k r d) = omega arith
 affordable {b = b} (by_the_search k r n) = omega arith
@@ -73,29 +73,29 @@ beyond_end (suc i) none l = refl
 beyond_end (suc i) (move x t m) l = beyond_end i m (omega arith)
 
 -- Before the move of number i: the sum so far, from n to n', and how the other moves' trials go on is how all go on.
-pub record Trying (stored : Storing) (b : ℕ) (held : Held) (m : Moves) (n : ℕ) (i : ℕ) (flags : List Bool) (held' : Held) (n' : ℕ) : Type 0 where
+pub record Trying (S : Storing) (b : ℕ) (standing : S.Standing) (m : Moves) (n : ℕ) (i : ℕ) (flags : List Bool) (standing' : S.Standing) (n' : ℕ) : Type 0 where
   pub count : length flags ≡ i
   pub so_far : ℕ
   pub sum : n' ≡ n + so_far
-  pub bound : so_far ≤ 99999999 * i
-  pub all : (ws : List Bool) (k : ℕ) (h : Held) → AllTried stored b held' (beyond i m) ws k h → AllTried stored b held m (flags ++ ws) (so_far + k) h
-  pub stop : (k : ℕ) (h : Held) → Stops stored b held' (beyond i m) k h → Stops stored b held m (so_far + k) h
+  pub bound : so_far ≤ budget_limit * i
+  pub all : (ws : List Bool) (k : ℕ) (h : S.Standing) → AllTried S b standing' (beyond i m) ws k h → AllTried S b standing m (flags ++ ws) (so_far + k) h
+  pub stop : (k : ℕ) (h : S.Standing) → Stops S b standing' (beyond i m) k h → Stops S b standing m (so_far + k) h
 
-module _ (stored : Storing) (b : ℕ) (held : Held) (m : Moves) (n : ℕ) where
-  pub trying_start : (flags : List Bool) → flags ≡ [] → Trying stored b held m n 0 flags held n
+module _ (S : Storing) (b : ℕ) (standing : S.Standing) (m : Moves) (n : ℕ) where
+  pub trying_start : (flags : List Bool) → flags ≡ [] → Trying S b standing m n 0 flags standing n
   unfolding beyond
   trying_start flags e = record {
     count = ap length e;
     so_far = 0;
     sum = omega arith;
     bound = omega arith;
-    all = λ ws k h a. subst (λ (fs : List Bool). AllTried stored b held m (fs ++ ws) (0 + k) h) (sym e) (subst (λ (x : ℕ). AllTried stored b held m ws x h) (let s : k ≡ 0 + k = omega arith in s) a);
-    stop = λ k h a. subst (λ (x : ℕ). Stops stored b held m x h) (let e : k ≡ 0 + k = omega arith in e) a;
+    all = λ ws k h a. subst (λ (fs : List Bool). AllTried S b standing m (fs ++ ws) (0 + k) h) (sym e) (subst (λ (x : ℕ). AllTried S b standing m ws x h) (let s : k ≡ 0 + k = omega arith in s) a);
+    stop = λ k h a. subst (λ (x : ℕ). Stops S b standing m x h) (let e : k ≡ 0 + k = omega arith in e) a;
   }
 
-  module _ (i : ℕ) (flags : List Bool) (n' : ℕ) (h h' : Held) (a : Answer) (low : i < length (successors m)) (small : b ≤ 99999999)
-      (t : Trying stored b held m n i flags h n') (r : Trial stored h (get_or (successors m) i nowhere) b a h') where
-    pub trying_next : (w : Bool) (more : List Bool) → more ≡ flags ++ (w ∷ []) → a.verdict ≡ verdict_of w → Trying stored b held m n (i + 1) more h' (n' + cost a)
+  module _ (i : ℕ) (flags : List Bool) (n' : ℕ) (h h' : S.Standing) (a : Answer) (low : i < length (successors m)) (small : b ≤ budget_limit)
+      (t : Trying S b standing m n i flags h n') (r : Trial S h (get_or (successors m) i nowhere) b a h') where
+    pub trying_next : (w : Bool) (more : List Bool) → more ≡ flags ++ (w ∷ []) → a.verdict ≡ verdict_of w → Trying S b standing m n (i + 1) more h' (n' + cost a)
     trying_next w more pushed v =
         let e = beyond-next i m low in
         let p : suc i ≡ i + 1 = omega arith in
@@ -105,53 +105,53 @@ module _ (stored : Storing) (b : ℕ) (held : Held) (m : Moves) (n : ℕ) where
           sum = omega (arith, t.sum);
           bound = omega (arith, t.bound, affordable r);
           all = λ ws k z x.
-              let x' = subst (λ (j : ℕ). AllTried stored b h' (beyond j m) ws k z) (sym p) x in
-              let y = t.all (w ∷ ws) (cost a + k) z (subst (λ (q : Moves). AllTried stored b h q (w ∷ ws) (cost a + k) z) (sym e) (tried r v x')) in
+              let x' = subst (λ (j : ℕ). AllTried S b h' (beyond j m) ws k z) (sym p) x in
+              let y = t.all (w ∷ ws) (cost a + k) z (subst (λ (q : Moves). AllTried S b h q (w ∷ ws) (cost a + k) z) (sym e) (tried r v x')) in
               let s : t.so_far + (cost a + k) ≡ (t.so_far + cost a) + k = omega arith in
               let u : flags ++ (w ∷ ws) ≡ more ++ ws = sym (append_assoc flags (w ∷ []) ws) ∙ ap (λ (q : List Bool). q ++ ws) (sym pushed) in
-              subst (λ (q : List Bool). AllTried stored b held m q ((t.so_far + cost a) + k) z) u (subst (λ (q : ℕ). AllTried stored b held m (flags ++ (w ∷ ws)) q z) s y);
+              subst (λ (q : List Bool). AllTried S b standing m q ((t.so_far + cost a) + k) z) u (subst (λ (q : ℕ). AllTried S b standing m (flags ++ (w ∷ ws)) q z) s y);
           stop = λ k z x.
-              let x' = subst (λ (j : ℕ). Stops stored b h' (beyond j m) k z) (sym p) x in
-              let y = t.stop (cost a + k) z (subst (λ (q : Moves). Stops stored b h q (cost a + k) z) (sym e) (later w r v x')) in
+              let x' = subst (λ (j : ℕ). Stops S b h' (beyond j m) k z) (sym p) x in
+              let y = t.stop (cost a + k) z (subst (λ (q : Moves). Stops S b h q (cost a + k) z) (sym e) (later w r v x')) in
               let s : t.so_far + (cost a + k) ≡ (t.so_far + cost a) + k = omega arith in
-              subst (λ (q : ℕ). Stops stored b held m q z) s y;
+              subst (λ (q : ℕ). Stops S b standing m q z) s y;
         }
 
-    pub trying_stop : a.verdict ≡ verdict.Spent → length (successors m) ≤ 6144 → Adds (λ k. Stops stored b held m k h') n (n' + cost a)
+    pub trying_stop : a.verdict ≡ verdict.Spent → length (successors m) ≤ 6144 → Adds (λ k. Stops S b standing m k h') n (n' + cost a)
     trying_stop v few = record {
       cost = t.so_far + cost a;
       sum = omega (arith, t.sum);
       bound = omega (arith, t.bound, affordable r);
-      holds = t.stop (cost a) h' (subst (λ (q : Moves). Stops stored b h q (cost a) h') (sym (beyond-next i m low)) (spent r v));
+      holds = t.stop (cost a) h' (subst (λ (q : Moves). Stops S b h q (cost a) h') (sym (beyond-next i m low)) (spent r v));
     }
 
-  pub trying_end : (i : ℕ) (flags : List Bool) (n' : ℕ) (h : Held) → length (successors m) ≤ 6144 → i ≡ length (successors m) → Trying stored b held m n i flags h n'
-      → Adds (λ k. AllTried stored b held m flags k h) n n'
+  pub trying_end : (i : ℕ) (flags : List Bool) (n' : ℕ) (h : S.Standing) → length (successors m) ≤ 6144 → i ≡ length (successors m) → Trying S b standing m n i flags h n'
+      → Adds (λ k. AllTried S b standing m flags k h) n n'
   trying_end i flags n' h few l t =
-      let y = t.all [] 0 h (subst (λ (q : Moves). AllTried stored b h q [] 0 h) (sym (beyond_end i m (omega arith))) no_more) in
+      let y = t.all [] 0 h (subst (λ (q : Moves). AllTried S b h q [] 0 h) (sym (beyond_end i m (omega arith))) no_more) in
       let s : t.so_far + 0 ≡ t.so_far = omega arith in
       record {
         cost = t.so_far;
         sum = t.sum;
         bound = omega (arith, t.bound);
-        holds = subst (λ (q : List Bool). AllTried stored b held m q t.so_far h) (append-nil flags) (subst (λ (q : ℕ). AllTried stored b held m (flags ++ []) q h) s y);
+        holds = subst (λ (q : List Bool). AllTried S b standing m q t.so_far h) (append-nil flags) (subst (λ (q : ℕ). AllTried S b standing m (flags ++ []) q h) s y);
       }
 
 -- a trial of a move, from a position and with a budget that are the same
-pub trial_at : {stored : Storing} {held held' : Held} {t t' : Tree} {b b' : Budget} {a : Answer} (i : ℕ) → t' ≡ t → b' ≡ b
-    → Trial stored held (get_or (next t') i nowhere) b'.amount a held' → Trial stored held (get_or (next t) i nowhere) b.amount a held'
-trial_at {stored = stored} {held = held} {held' = held'} {t = t} {b' = b'} {a = a} i e f r =
-    subst (λ (x : Budget). Trial stored held (get_or (next t) i nowhere) x.amount a held') f
-    (subst (λ (x : Tree). Trial stored held (get_or (next x) i nowhere) b'.amount a held') e r)
+pub trial_at : {S : Storing} {standing standing' : S.Standing} {t t' : Tree} {b b' : Budget} {a : Answer} (i : ℕ) → t' ≡ t → b' ≡ b
+    → Trial S standing (get_or (next t') i nowhere) b'.amount a standing' → Trial S standing (get_or (next t) i nowhere) b.amount a standing'
+trial_at {S = S} {standing = standing} {standing' = standing'} {t = t} {b' = b'} {a = a} i e f r =
+    subst (λ (x : Budget). Trial S standing (get_or (next t) i nowhere) x.amount a standing') f
+    (subst (λ (x : Tree). Trial S standing (get_or (next x) i nowhere) b'.amount a standing') e r)
 
 -- equal flags say the same trials
-pub same_flags : {stored : Storing} {b : ℕ} {held held' : Held} {m : Moves} {ws vs : List Bool} {n n' : ℕ} → ws ≡ vs
-    → Adds (λ k. AllTried stored b held m vs k held') n n' → Adds (λ k. AllTried stored b held m ws k held') n n'
-same_flags {stored = stored} {b = b} {held = held} {held' = held'} {m = m} {n = n} {n' = n'} e a =
-    subst (λ (fs : List Bool). Adds (λ k. AllTried stored b held m fs k held') n n') (sym e) a
+pub same_flags : {S : Storing} {b : ℕ} {standing standing' : S.Standing} {m : Moves} {ws vs : List Bool} {n n' : ℕ} → ws ≡ vs
+    → Adds (λ k. AllTried S b standing m vs k standing') n n' → Adds (λ k. AllTried S b standing m ws k standing') n n'
+same_flags {S = S} {b = b} {standing = standing} {standing' = standing'} {m = m} {n = n} {n' = n'} e a =
+    subst (λ (fs : List Bool). Adds (λ k. AllTried S b standing m fs k standing') n n') (sym e) a
 
-pub attempt_spent : {stored : Storing} {b : ℕ} {held held' : Held} {m : Moves} (ws : List Bool) {n n' : ℕ} (r : Result (Unit {0}) Stop) (stop : Stop) → stop ≡ Spent
-    → IsErrAnd r (λ e. e ≡ stop) → Adds (λ k. Stops stored b held m k held') n n' → Attempted stored b held m ws n r held' n'
+pub attempt_spent : {S : Storing} {b : ℕ} {standing standing' : S.Standing} {m : Moves} (ws : List Bool) {n n' : ℕ} (r : Result (Unit {0}) Stop) (stop : Stop) → stop ≡ Spent
+    → IsErrAnd r (λ e. e ≡ stop) → Adds (λ k. Stops S b standing m k standing') n n' → Attempted S b standing m ws n r standing' n'
 attempt_spent ws (Ok u) stop s h a = elim h [ ]
 attempt_spent ws (Err e) stop s h a = (h ∙ s, a)
 

@@ -3,9 +3,8 @@ use Rattle.std.proofs.Common.{◌≡◌, ◌≢◌, ℕ, suc, ◌+◌, ◌-◌, 
 use Rattle.std.specs.Result.{IsErrAnd}
 use Rattle.game.specs.declared.state.State.TheVariants.{Attacker, Defender}
 use Rattle.game.specs.Tree.{Tree, Moves, nowhere, state, moves, next, words}
-use Rattle.table.specs.Pairs.{Held}
 use Rattle.search.specs.declared.budget.Budget.{Budget}
-use Rattle.search_laws.specs.Run.{Storing}
+use Rattle.table.specs.Storings.{Storing}
 use Rattle.solution_laws.specs.declared.ending.Ending.TheVariants.{Done, Cut}
 use Rattle.solution_laws.specs.Lines.{Line}
 use Rattle.solution_laws.specs.Solution.{AllTried, Stops, best, wins, Part, no_line, then, reply_line, Solves, stopped, no_win, full, win, defends, Replies, no_reply, no_room, last, reply}
@@ -22,22 +21,22 @@ use Rattle.solution.specs.Following.{Followed, Attacked, Attacks}
 use Rattle.solution.proofs.Pages.{written_none, written-join, room_after}
 use Rattle.solution.proofs.Attempts.{beyond, beyond-next, beyond_end}
 
-pub chosen_number : {stored : Storing} {b n : ℕ} {held held' : Held} (t : Tree) (i : Option ℕ) (j : ℕ) (ws : List Bool) → AllTried stored b held (moves t) ws n held' → best i ws ≡ Some j → j < length (next t)
+pub chosen_number : {S : Storing} {b n : ℕ} {standing standing' : S.Standing} (t : Tree) (i : Option ℕ) (j : ℕ) (ws : List Bool) → AllTried S b standing (moves t) ws n standing' → best i ws ≡ Some j → j < length (next t)
 chosen_number t i j ws s o = let g = true_below ws j (best-wins i ws j o) in let n = tried-length s in omega arith
 
 -- what comes after a move, from a position and with a budget that are the same
-pub followed_at : {stored : Storing} {k : ℕ} {t t' : Tree} {b b' : Budget} {held held' : Held} {page page' : Page} {n n' : ℕ} {r : Result (Unit {0}) Stop} (j : ℕ) → t' ≡ t → b' ≡ b
-    → Followed stored b'.amount k None (get_or (next t') j nowhere) held page n r held' page' n'
-    → Followed stored b.amount k None (get_or (next t) j nowhere) held page n r held' page' n'
-followed_at {stored = stored} {k = k} {t = t} {b' = b'} {held = held} {held' = held'} {page = page} {page' = page'} {n = n} {n' = n'} {r = r} j e f z =
-    subst (λ (x : Budget). Followed stored x.amount k None (get_or (next t) j nowhere) held page n r held' page' n') f
-    (subst (λ (x : Tree). Followed stored b'.amount k None (get_or (next x) j nowhere) held page n r held' page' n') e z)
+pub followed_at : {S : Storing} {k : ℕ} {t t' : Tree} {b b' : Budget} {standing standing' : S.Standing} {page page' : Page} {n n' : ℕ} {r : Result (Unit {0}) Stop} (j : ℕ) → t' ≡ t → b' ≡ b
+    → Followed S b'.amount k None (get_or (next t') j nowhere) standing page n r standing' page' n'
+    → Followed S b.amount k None (get_or (next t) j nowhere) standing page n r standing' page' n'
+followed_at {S = S} {k = k} {t = t} {b' = b'} {standing = standing} {standing' = standing'} {page = page} {page' = page'} {n = n} {n' = n'} {r = r} j e f z =
+    subst (λ (x : Budget). Followed S x.amount k None (get_or (next t) j nowhere) standing page n r standing' page' n') f
+    (subst (λ (x : Tree). Followed S b'.amount k None (get_or (next x) j nowhere) standing page n r standing' page' n') e z)
 
-module _ (stored : Storing) (b k : ℕ) (i : Option ℕ) (t : Tree) (held : Held) (page : Page) (n : ℕ) where
+module _ (S : Storing) (b k : ℕ) (i : Option ℕ) (t : Tree) (standing : S.Standing) (page : Page) (n : ℕ) where
   -- nothing is written
-  pub no_line_followed : (r : Result (Unit {0}) Stop) (c : ℕ) (held' : Held) (n' : ℕ) → n' ≡ n + c → c ≤ most
-      → Solves stored b k i t held (room page) (no_line (ending_of r) c) held' → Followed stored b k i t held page n r held' page n'
-  no_line_followed r c held' n' s l z = record {
+  pub no_line_followed : (r : Result (Unit {0}) Stop) (c : ℕ) (standing' : S.Standing) (n' : ℕ) → n' ≡ n + c → c ≤ most
+      → Solves S b k i t standing (room page) (no_line (ending_of r) c) standing' → Followed S b k i t standing page n r standing' page n'
+  no_line_followed r c standing' n' s l z = record {
     part = no_line (ending_of r) c;
     solves = z;
     ending = refl;
@@ -47,22 +46,22 @@ module _ (stored : Storing) (b k : ℕ) (i : Option ℕ) (t : Tree) (held : Held
     bound = omega arith;
   }
 
-  module _ (held' : Held) (n' : ℕ) (e : state t ≡ Attacker) where
+  module _ (standing' : S.Standing) (n' : ℕ) (e : state t ≡ Attacker) where
     pub spent_attacks : (r : Result (Option ℕ) Stop) (stop : Stop) → IsErrAnd r (λ s. s ≡ stop)
-        → (stop ≡ stops.Spent) × Adds (λ c. Stops stored b held (moves t) c held') n n' → Attacks stored b k i t held page n r held' page n'
+        → (stop ≡ stops.Spent) × Adds (λ c. Stops S b standing (moves t) c standing') n n' → Attacks S b k i t standing page n r standing' page n'
     spent_attacks (Ok o) stop h a = elim h [ ]
     spent_attacks (Err s) stop h a =
         let z = stopped {i = i} e a.1.holds in
-        no_line_followed (Err s) a.1.cost held' n' a.1.sum a.1.bound
-        (subst (λ (x : Stop). Solves stored b k i t held (room page) (no_line (ending_at x) a.1.cost) held') (sym (h ∙ a.0)) z)
+        no_line_followed (Err s) a.1.cost standing' n' a.1.sum a.1.bound
+        (subst (λ (x : Stop). Solves S b k i t standing (room page) (no_line (ending_at x) a.1.cost) standing') (sym (h ∙ a.0)) z)
 
-    pub no_win_attacks : (ws : List Bool) → Adds (λ c. AllTried stored b held (moves t) ws c held') n n' → best i ws ≡ None
-        → Followed stored b k i t held page n (Ok tt) held' page n'
-    no_win_attacks ws a o = no_line_followed (Ok tt) a.cost held' n' a.sum a.bound (no_win e a.holds o)
+    pub no_win_attacks : (ws : List Bool) → Adds (λ c. AllTried S b standing (moves t) ws c standing') n n' → best i ws ≡ None
+        → Followed S b k i t standing page n (Ok tt) standing' page n'
+    no_win_attacks ws a o = no_line_followed (Ok tt) a.cost standing' n' a.sum a.bound (no_win e a.holds o)
 
     pub cut_attacks : (r : Result (Option ℕ) Stop) (f : Full) (j : ℕ) (ws : List Bool) (page' : Page) → IsErrAnd r (λ s. s ≡ stops.Cut)
-        → Adds (λ c. AllTried stored b held (moves t) ws c held') n n' → best i ws ≡ Some j → Writes (wins k j ws (words t)) page (Err f) page'
-        → Attacks stored b k i t held page n r held' page' n'
+        → Adds (λ c. AllTried S b standing (moves t) ws c standing') n n' → best i ws ≡ Some j → Writes (wins k j ws (words t)) page (Err f) page'
+        → Attacks S b k i t standing page n r standing' page' n'
     cut_attacks (Ok o) f j ws page' h a o' w = elim h [ ]
     cut_attacks (Err s) f j ws page' h a o w =
         let ls = wins k j ws (words t) in
@@ -77,16 +76,16 @@ module _ (stored : Storing) (b k : ℕ) (i : Option ℕ) (t : Tree) (held : Held
           bound = omega (arith, a.bound);
         }
 
-    pub win_followed : (j : ℕ) (held'' : Held) (page' page'' : Page) (n'' : ℕ) (r : Result (Unit {0}) Stop)
-        → Attacked stored b k i t held page n j held' page' n'
-        → Followed stored b (k + 1) None (get_or (next t) j nowhere) held' page' n' r held'' page'' n''
-        → Followed stored b k i t held page n r held'' page'' n''
-    win_followed j held'' page' page'' n'' r a f =
+    pub win_followed : (j : ℕ) (standing'' : S.Standing) (page' page'' : Page) (n'' : ℕ) (r : Result (Unit {0}) Stop)
+        → Attacked S b k i t standing page n j standing' page' n'
+        → Followed S b (k + 1) None (get_or (next t) j nowhere) standing' page' n' r standing'' page'' n''
+        → Followed S b k i t standing page n r standing'' page'' n''
+    win_followed j standing'' page' page'' n'' r a f =
         let ls = wins k j a.flags (words t) in
         let u = get_or (next t) j nowhere in
         let p : k + 1 ≡ suc k = omega arith in
-        let z = subst (λ (x : ℕ). Solves stored b x None u held' (room page') f.part held'') p f.solves in
-        let y = subst (λ (x : ℕ). Solves stored b (suc k) None u held' x f.part held'') (room_after ls a.writes.1) z in
+        let z = subst (λ (x : ℕ). Solves S b x None u standing' (room page') f.part standing'') p f.solves in
+        let y = subst (λ (x : ℕ). Solves S b (suc k) None u standing' x f.part standing'') (room_after ls a.writes.1) z in
         let m = length-append ls f.part.lines in
         record {
           part = then ls a.tried.cost f.part;
@@ -99,20 +98,20 @@ module _ (stored : Storing) (b k : ℕ) (i : Option ℕ) (t : Tree) (held : Held
         }
 
 -- the replies, before the move of number i
-module _ (stored : Storing) (b k : ℕ) (t : Tree) (held : Held) (page : Page) (n : ℕ) where
-  pub record Replying (i : ℕ) (h : Held) (page' : Page) (n' : ℕ) : Type 0 where
+module _ (S : Storing) (b k : ℕ) (t : Tree) (standing : S.Standing) (page : Page) (n : ℕ) where
+  pub record Replying (i : ℕ) (h : S.Standing) (page' : Page) (n' : ℕ) : Type 0 where
     pub so_far : List Line
     pub cost : ℕ
     pub sum : n' ≡ n + cost
     pub written : Written so_far page page'
     pub fits : length so_far ≤ room page
     pub bound : cost ≤ most * length so_far
-    pub goes_on : (q : Part) (h' : Held) → Replies stored b k (beyond i (moves t)) h (room page') q h' → Replies stored b k (moves t) held (room page) (then so_far cost q) h'
+    pub goes_on : (q : Part) (h' : S.Standing) → Replies S b k (beyond i (moves t)) h (room page') q h' → Replies S b k (moves t) standing (room page) (then so_far cost q) h'
 
   then_none : (q : Part) → q ≡ then [] 0 q
   then_none q = λ i. record { ending = q.ending; lines = q.lines; sum = (let e : q.sum ≡ 0 + q.sum = omega arith in e) i }
 
-  pub replying_start : Replying 0 held page n
+  pub replying_start : Replying 0 standing page n
   unfolding beyond
   replying_start = record {
     so_far = [];
@@ -121,7 +120,7 @@ module _ (stored : Storing) (b k : ℕ) (t : Tree) (held : Held) (page : Page) (
     written = written_none page;
     fits = omega arith;
     bound = omega arith;
-    goes_on = λ q h' r. subst (λ (x : Part). Replies stored b k (moves t) held (room page) x h') (then_none q) r;
+    goes_on = λ q h' r. subst (λ (x : Part). Replies S b k (moves t) standing (room page) x h') (then_none q) r;
   }
 
   then_then : (ls ms : List Line) (m c : ℕ) (q : Part) → then ls m (then ms c q) ≡ then (ls ++ ms) (m + c) q
@@ -129,17 +128,17 @@ module _ (stored : Storing) (b k : ℕ) (t : Tree) (held : Held) (page : Page) (
       let e : m + (c + q.sum) ≡ (m + c) + q.sum = omega arith in
       λ i. record { ending = q.ending; lines = sym (append_assoc ls ms q.lines) i; sum = e i }
 
-  module _ (i : ℕ) (h : Held) (p1 : Page) (n1 : ℕ) (r : Replying i h p1 n1) (low : i < length (next t)) where
+  module _ (i : ℕ) (h : S.Standing) (p1 : Page) (n1 : ℕ) (r : Replying i h p1 n1) (low : i < length (next t)) where
     line : Line
     line = reply_line k (get_or (words t) i [])
 
     pub replying_cut : (o : Option ℕ) (x : Result (Unit {0}) Stop) (f : Full) (p2 : Page) → IsErrAnd x (λ s. s ≡ stops.Cut) → state t ≡ Defender
-        → Writes (reply_line k (get_or (words t) i []) ∷ []) p1 (Err f) p2 → Followed stored b k o t held page n x h p2 n1
+        → Writes (reply_line k (get_or (words t) i []) ∷ []) p1 (Err f) p2 → Followed S b k o t standing page n x h p2 n1
     unfolding line
     replying_cut o (Ok u) f p2 z e w = elim z [ ]
     replying_cut o (Err s) f p2 d e w =
         let z : room p1 ≡ 0 = omega (arith, w.0) in
-        let v = r.goes_on (no_line Cut 0) h (subst (λ (m : Moves). Replies stored b k m h (room p1) (no_line Cut 0) h) (sym (beyond-next i (moves t) low)) (no_room z)) in
+        let v = r.goes_on (no_line Cut 0) h (subst (λ (m : Moves). Replies S b k m h (room p1) (no_line Cut 0) h) (sym (beyond-next i (moves t) low)) (no_room z)) in
         let y = subst (λ (m : ℕ). Written (take m (line ∷ [])) p1 p2) z w.1 in
         let l = length-append r.so_far [] in
         record {
@@ -153,7 +152,7 @@ module _ (stored : Storing) (b k : ℕ) (t : Tree) (held : Held) (page : Page) (
         }
 
     module _ (p2 : Page) (w : Writes (reply_line k (get_or (words t) i []) ∷ []) p1 (Ok tt) p2)
-        (x : Result (Unit {0}) Stop) (h' : Held) (p3 : Page) (n3 : ℕ) (f : Followed stored b (k + 1) None (get_or (next t) i nowhere) h p2 n1 x h' p3 n3) where
+        (x : Result (Unit {0}) Stop) (h' : S.Standing) (p3 : Page) (n3 : ℕ) (f : Followed S b (k + 1) None (get_or (next t) i nowhere) h p2 n1 x h' p3 n3) where
       lines : List Line
       lines = line ∷ f.part.lines
 
@@ -161,12 +160,12 @@ module _ (stored : Storing) (b k : ℕ) (t : Tree) (held : Held) (page : Page) (
       unfolding line lines
       joined = written-join (line ∷ []) f.part.lines w.1 f.written
 
-      after : Solves stored b (suc k) None (get_or (next t) i nowhere) h (room p1 - 1) f.part h'
+      after : Solves S b (suc k) None (get_or (next t) i nowhere) h (room p1 - 1) f.part h'
       unfolding line lines
       after =
           let p : k + 1 ≡ suc k = omega arith in
-          let z = subst (λ (y : ℕ). Solves stored b y None (get_or (next t) i nowhere) h (room p2) f.part h') p f.solves in
-          subst (λ (y : ℕ). Solves stored b (suc k) None (get_or (next t) i nowhere) h y f.part h') (room_after (line ∷ []) w.1) z
+          let z = subst (λ (y : ℕ). Solves S b y None (get_or (next t) i nowhere) h (room p2) f.part h') p f.solves in
+          subst (λ (y : ℕ). Solves S b (suc k) None (get_or (next t) i nowhere) h y f.part h') (room_after (line ∷ []) w.1) z
 
       longer : length (r.so_far ++ lines) ≡ suc (length r.so_far + length f.part.lines)
       unfolding line lines
@@ -180,13 +179,13 @@ module _ (stored : Storing) (b k : ℕ) (t : Tree) (held : Held) (page : Page) (
           omega (arith, r.fits, f.fits, w.0, longer)
 
       pub replying-last : (o : Option ℕ) (stop : Stop) (y : Result (Unit {0}) Stop) → state t ≡ Defender → x ≡ Err stop → IsErrAnd y (λ s. s ≡ stop)
-          → Followed stored b k o t held page n y h' p3 n3
+          → Followed S b k o t standing page n y h' p3 n3
       unfolding line lines
       replying-last o stop (Ok u) e d z = elim z [ ]
       replying-last o stop (Err s) e d z =
           let en : f.part.ending ≡ ending_at s = sym f.ending ∙ ap ending_of d ∙ ap ending_at (sym z) in
           let nd : f.part.ending ≢ Done = λ q. stops_short s (sym en ∙ q) in
-          let v = r.goes_on (then (line ∷ []) 0 f.part) h' (subst (λ (m : Moves). Replies stored b k m h (room p1) (then (line ∷ []) 0 f.part) h') (sym (beyond-next i (moves t) low)) (last (omega (arith, w.0)) after nd)) in
+          let v = r.goes_on (then (line ∷ []) 0 f.part) h' (subst (λ (m : Moves). Replies S b k m h (room p1) (then (line ∷ []) 0 f.part) h') (sym (beyond-next i (moves t) low)) (last (omega (arith, w.0)) after nd)) in
           record {
             part = then r.so_far r.cost (then (line ∷ []) 0 f.part);
             solves = defends e v;
@@ -214,17 +213,17 @@ module _ (stored : Storing) (b k : ℕ) (t : Tree) (held : Held) (page : Page) (
             fits = fitting;
             bound = omega (arith, r.bound, f.bound, longer);
             goes_on = λ q h'' z.
-                let z1 = subst (λ (y : ℕ). Replies stored b k (beyond y (moves t)) h' (room p3) q h'') (sym p) z in
-                let z2 = subst (λ (y : ℕ). Replies stored b k (beyond (suc i) (moves t)) h' y q h'') (room_after lines joined) z1 in
-                let z3 = subst (λ (m : Moves). Replies stored b k m h (room p1) (then lines f.part.sum q) h'') (sym (beyond-next i (moves t) low)) (reply (omega (arith, w.0)) after dn z2) in
+                let z1 = subst (λ (y : ℕ). Replies S b k (beyond y (moves t)) h' (room p3) q h'') (sym p) z in
+                let z2 = subst (λ (y : ℕ). Replies S b k (beyond (suc i) (moves t)) h' y q h'') (room_after lines joined) z1 in
+                let z3 = subst (λ (m : Moves). Replies S b k m h (room p1) (then lines f.part.sum q) h'') (sym (beyond-next i (moves t) low)) (reply (omega (arith, w.0)) after dn z2) in
                 let z4 = r.goes_on (then lines f.part.sum q) h'' z3 in
-                subst (λ (y : Part). Replies stored b k (moves t) held (room page) y h'') (then_then r.so_far lines r.cost f.part.sum q) z4;
+                subst (λ (y : Part). Replies S b k (moves t) standing (room page) y h'') (then_then r.so_far lines r.cost f.part.sum q) z4;
           }
 
-  pub replying_end : (o : Option ℕ) (i : ℕ) (h : Held) (p1 : Page) (n1 : ℕ) → Replying i h p1 n1 → length (next t) ≤ i → state t ≡ Defender
-      → Followed stored b k o t held page n (Ok tt) h p1 n1
+  pub replying_end : (o : Option ℕ) (i : ℕ) (h : S.Standing) (p1 : Page) (n1 : ℕ) → Replying i h p1 n1 → length (next t) ≤ i → state t ≡ Defender
+      → Followed S b k o t standing page n (Ok tt) h p1 n1
   replying_end o i h p1 n1 r l e =
-      let v = r.goes_on (no_line Done 0) h (subst (λ (m : Moves). Replies stored b k m h (room p1) (no_line Done 0) h) (sym (beyond_end i (moves t) l)) no_reply) in
+      let v = r.goes_on (no_line Done 0) h (subst (λ (m : Moves). Replies S b k m h (room p1) (no_line Done 0) h) (sym (beyond_end i (moves t) l)) no_reply) in
       let m = length-append r.so_far [] in
       record {
         part = then r.so_far r.cost (no_line Done 0);

@@ -1,22 +1,24 @@
 -- The lines of a solution in the buffer, and what its answer means.
-use Rattle.std.proofs.Common.{◌≡◌, ℕ, suc, ◌+◌, ◌*◌, ◌/◌, ◌%◌, ◌≤◌, Bool, true, false, cond, not, ◌||◌, eqb, ltb, leb, List, [], ◌∷◌, ◌++◌, length, take, drop, Some, None, Ok, Err, Result, sym, refl, ap, ◌∙◌, subst, ap₂, append_assoc, arith, length-append, length-drop}
+use Rattle.std.proofs.Common.{◌≡◌, ℕ, suc, ◌+◌, ◌*◌, ◌/◌, ◌%◌, ◌≤◌, Bool, true, false, cond, not, ◌||◌, eqb, ltb, leb, List, [], ◌∷◌, ◌++◌, length, take, drop, Some, None, Option, Ok, Err, Result, sym, refl, ap, ◌∙◌, subst, ap₂, append_assoc, arith, length-append, length-drop}
 use Rattle.std.specs.List.{AllByRecursion}
 use Rattle.std.specs.Result.{IsErrAnd}
 use Rattle.std.proofs.lemmas.Bool.{le-ltb, ltb-false}
 use Rattle.std.proofs.lemmas.List.{drop-drop, take_at, drop_at}
+use Rattle.game.specs.Limits.{records_needed}
 use Rattle.game.specs.declared.decline.Decline.{Decline}
-use Rattle.game.specs.declared.decline.Decline.TheVariants.{Budget, Records, Buffer, NotAttacker, MoveNumber}
+use Rattle.game.specs.Declines.{number}
+use Rattle.search_laws.specs.Calls.{budget_limit}
 use Rattle.game.specs.declared.state.State.{State}
 use Rattle.game.specs.declared.state.State.TheVariants as states
 use Rattle.game.specs.Tree.{Tree, state, next}
 use Rattle.table.specs.declared.pair.Pair.{Pair}
-use Rattle.table.specs.Pairs.{Held}
 use Rattle.search.specs.declared.budget.Budget as budgets
-use Rattle.search_laws.specs.Run.{Storing}
-use Rattle.solution_laws.specs.Lines.{Line, bytes, all_bytes, lines_in, written_over, keys, duals, Fits}
+use Rattle.table.specs.Storings.{Storing}
+use Rattle.solution_laws.specs.Lines.{Line, bytes, all_bytes, lines_in, written_over, Fits}
 use Rattle.solution_laws.specs.Solution.{Solves}
-use Rattle.solution_laws.specs.Claims.{AttacksWin, KeysHaveLines, SolutionsAreRight, SpentIsMeant, SolutionsFit}
-use Rattle.solution_laws.proofs.Fitting.{lines_are_read_lem}
+use Rattle.solution_laws.specs.Claims.{SolutionsAreRight, SpentIsMeant, SolutionsFit}
+use Rattle.solution_laws.specs.Words.{word}
+use Rattle.solution_laws.proofs.Reading.{lines_are_read_lem}
 use Rattle.solution_laws.specs.declared.ending.Ending.{Ending}
 use Rattle.solution.specs.declared.page.Page.{Page}
 use Rattle.solution.specs.declared.stop.Stop.{Stop}
@@ -24,6 +26,7 @@ use Rattle.solution.specs.Stops.{ending_of}
 use Rattle.solution.specs.declared.answer.Solution.{Solution}
 use Rattle.solution.specs.Pages.{put, laid, room}
 use Rattle.solution.specs.Following.{Followed}
+use Rattle.solution.specs.Limits.{buffer_limit}
 use Rattle.solution.specs.Calls.{is_attacker, declined, Solved, Answered, Means, Right}
 
 -- lines laid from place n on
@@ -46,50 +49,50 @@ laid_from (l ∷ ls) n front rest f e h =
 laid-over : (ls : List Line) (buffer : List ℕ) → AllByRecursion Fits ls → length ls ≤ length buffer / 8 → laid ls 0 buffer ≡ written_over ls buffer
 laid-over ls buffer f h = laid_from ls 0 [] buffer f refl (omega arith)
 
-pub shown : (positions : Tree → Type 0) (stored : Storing) (b i : ℕ) (t : Tree) (held : Held) (page : Page) (r : Result (Unit {0}) Stop) (held' : Held) (page' : Page) (n n' : ℕ) (e : Ending)
-    → SolutionsFit positions stored → positions t → page.lines ≡ 0 → page.keys ≡ 0 → page.duals ≡ 0 → n ≡ 0 → e ≡ ending_of r
-    → Followed stored b 1 (Some i) t held page n r held' page' n'
-    → Solved stored held t i b page.buffer.now (record { ending = e; lines = page'.lines; keys = page'.keys; duals = page'.duals; sum = n' }) held' page'.buffer.now
-shown positions stored b i t held page r held' page' n n' e fit pt zl zk zd zn en f =
+pub shown : (positions : Tree → Type 0) (S : Storing) (b i : ℕ) (t : Tree) (standing : S.Standing) (page : Page) (r : Result (Unit {0}) Stop) (standing' : S.Standing) (page' : Page) (n n' : ℕ) (e : Ending)
+    → SolutionsFit positions S → positions t → page.lines ≡ 0 → page.keys ≡ 0 → page.duals ≡ 0 → n ≡ 0 → e ≡ ending_of r
+    → Followed S b 1 (Some i) t standing page n r standing' page' n'
+    → Solved S standing t i b page.buffer.now (record { ending = e; lines = page'.lines; keys = page'.keys; duals = page'.duals; sum = n' }) standing' page'.buffer.now
+shown positions S b i t standing page r standing' page' n n' e fit pt zl zk zd zn en f =
     let m : room page ≡ length page.buffer.now / 8 = omega arith in
     let w = f.written in
     record {
       part = f.part;
-      solves = subst (λ (x : ℕ). Solves stored b 1 (Some i) t held x f.part held') m f.solves;
+      solves = subst (λ (x : ℕ). Solves S b 1 (Some i) t standing x f.part standing') m f.solves;
       ending = en ∙ f.ending;
       lines = omega (arith, w.lines);
       keys = omega (arith, w.keys);
       duals = omega (arith, w.duals);
       sum = omega (arith, f.sum);
-      shown = w.shown ∙ ap (λ (x : ℕ). laid f.part.lines x page.buffer.now) zl ∙ laid-over f.part.lines page.buffer.now (fit held t b i (room page) f.part held' pt f.solves) (omega (arith, f.fits));
+      shown = w.shown ∙ ap (λ (x : ℕ). laid f.part.lines x page.buffer.now) zl ∙ laid-over f.part.lines page.buffer.now (fit standing t b i (room page) f.part standing' pt f.solves) (omega (arith, f.fits));
     }
 
 -- what is checked of a position, the intended move and the buffer, where the budget and the records are taken
-pub accepted : (t : Tree) (i n l : ℕ) (budget : budgets.Budget) {b : ℕ} → budget.amount ≡ b → 6144 ≤ n → declined t i b n l ≡ declined t i 0 6144 l
+pub accepted : (t : Tree) (i n l : ℕ) (budget : budgets.Budget) {b : ℕ} → budget.amount ≡ b → records_needed ≤ n → declined t i b n l ≡ declined t i 0 records_needed l
 accepted t i n l budget {b = b} e m =
-    let within = subst (λ (x : ℕ). x ≤ 99999999) e budget.within in
-    ap₂ (λ (x y : Bool). cond x (Some Budget) (cond y (Some Records) (declined t i 0 6144 l))) (le-ltb 99999999 b within) (le-ltb n 6144 m)
+    let within = subst (λ (x : ℕ). x ≤ budget_limit) e budget.within in
+    ap₂ (λ (x y : Bool). cond x (Some 1) (cond y (Some 2) (declined t i 0 records_needed l))) (le-ltb budget_limit b within) (le-ltb n records_needed m)
 
 -- the buffer is then none that is too long
-pub short : (t : Tree) (i l : ℕ) → declined t i 0 6144 l ≡ None → l ≤ 32768
-short t i l e = ltb-false 32768 l (go (not (eqb (l % 8) 0)) (ltb 32768 l) (is_attacker (state t)) (leb (length (next t)) i) e)
+pub short : (t : Tree) (i l : ℕ) → declined t i 0 records_needed l ≡ None → l ≤ buffer_limit
+short t i l e = ltb-false buffer_limit l (go (not (eqb (l % 8) 0)) (ltb buffer_limit l) (is_attacker (state t)) (leb (length (next t)) i) e)
   where
-    go : (d x m k : Bool) → cond (d || x) (Some Buffer) (cond (not m) (Some NotAttacker) (cond k (Some MoveNumber) None)) ≡ None → x ≡ false
+    go : (d x m k : Bool) → ◌≡◌ {A = Option ℕ} (cond (d || x) (Some 3) (cond (not m) (Some 4) (cond k (Some 5) None))) None → x ≡ false
     go false false m k e = refl
     go false true m k e = cc
     go true x m k e = cc
 
 -- a solution with a budget of this amount
-pub budgeted : {stored : Storing} {held held' : Held} {t : Tree} {i b b' : ℕ} {buffer buffer' : List ℕ} {a : Solution} → b ≡ b'
-    → Solved stored held t i b buffer a held' buffer' → Solved stored held t i b' buffer a held' buffer'
-budgeted {stored = stored} {held = held} {held' = held'} {t = t} {i = i} {buffer = buffer} {buffer' = buffer'} {a = a} e s =
-    subst (λ (b : ℕ). Solved stored held t i b buffer a held' buffer') e s
+pub budgeted : {S : Storing} {standing standing' : S.Standing} {t : Tree} {i b b' : ℕ} {buffer buffer' : List ℕ} {a : Solution} → b ≡ b'
+    → Solved S standing t i b buffer a standing' buffer' → Solved S standing t i b' buffer a standing' buffer'
+budgeted {S = S} {standing = standing} {standing' = standing'} {t = t} {i = i} {buffer = buffer} {buffer' = buffer'} {a = a} e s =
+    subst (λ (b : ℕ). Solved S standing t i b buffer a standing' buffer') e s
 
-pub refused : (positions : Tree → Type 0) (stored : Storing) (held : Held) (t : Tree) (i b : ℕ) (rs rs' : List Pair) (buffer : List ℕ) (r : Result Solution Decline) (d : Decline)
-    → IsErrAnd r (λ x. x ≡ d) → declined t i b (length rs) (length buffer) ≡ Some d → rs' ≡ rs
-    → Answered stored held t i b rs buffer r held rs' buffer × Right positions held t b r held buffer
-refused positions stored held t i b rs rs' buffer (Ok a) d e n s = elim e [ ]
-refused positions stored held t i b rs rs' buffer (Err x) d e n s = ((n ∙ ap Some (sym e), refl, s, refl), refl)
+pub refused : (positions : Tree → Type 0) (S : Storing) (standing : S.Standing) (t : Tree) (i b : ℕ) (rs rs' : List Pair) (buffer : List ℕ) (r : Result Solution Decline) (d : Decline)
+    → IsErrAnd r (λ x. x ≡ d) → declined t i b (length rs) (length buffer) ≡ Some (number d) → rs' ≡ rs
+    → Answered S standing t i b rs buffer r standing rs' buffer × Right positions S standing t b r standing buffer
+refused positions S standing t i b rs rs' buffer (Ok a) d e n s = elim e [ ]
+refused positions S standing t i b rs rs' buffer (Err x) d e n s = ((n ∙ ap (λ z. Some (number z)) (sym e), refl, s, refl), refl)
 
 -- a solution that is not declined starts with the attacker to move
 
@@ -100,10 +103,10 @@ attacker states.Attacker e = refl
 attacker states.Defender e = cc
 
 pub attacked : (t : Tree) (i b n l : ℕ) → declined t i b n l ≡ None → state t ≡ states.Attacker
-attacked t i b n l e = attacker (state t) (go (ltb 99999999 b) (ltb n 6144) (not (eqb (l % 8) 0) || ltb 32768 l) (is_attacker (state t)) (leb (length (next t)) i) e)
+attacked t i b n l e = attacker (state t) (go (ltb budget_limit b) (ltb n records_needed) (not (eqb (l % 8) 0) || ltb buffer_limit l) (is_attacker (state t)) (leb (length (next t)) i) e)
   where
     go : (a c d m k : Bool) →
-        cond a (Some Budget) (cond c (Some Records) (cond d (Some Buffer) (cond (not m) (Some NotAttacker) (cond k (Some MoveNumber) None)))) ≡ None
+        ◌≡◌ {A = Option ℕ} (cond a (Some 1) (cond c (Some 2) (cond d (Some 3) (cond (not m) (Some 4) (cond k (Some 5) None))))) None
         → m ≡ true
     go true c d m k e = cc
     go false true d m k e = cc
@@ -113,19 +116,21 @@ attacked t i b n l e = attacker (state t) (go (ltb 99999999 b) (ltb n 6144) (not
 
 -- what an answer means
 
-pub means : (positions : Tree → Type 0) (stored : Storing) (held : Held) (t : Tree) (i b : ℕ) (buffer : List ℕ) (a : Solution) (held' : Held) (buffer' : List ℕ)
-    → SolutionsFit positions stored → SolutionsAreRight positions stored → SpentIsMeant stored → positions t → state t ≡ states.Attacker
-    → Solved stored held t i b buffer a held' buffer' → Means positions held t b a held' buffer'
-means positions stored held t i b buffer a held' buffer' fit right meant pt at s =
+pub means : (positions : Tree → Type 0) (S : Storing) (standing : S.Standing) (t : Tree) (i b : ℕ) (buffer : List ℕ) (a : Solution) (standing' : S.Standing) (buffer' : List ℕ)
+    → SolutionsFit positions S → SolutionsAreRight positions S → SpentIsMeant S → positions t → state t ≡ states.Attacker
+    → Solved S standing t i b buffer a standing' buffer' → Means positions S standing t b a standing' buffer'
+means positions S standing t i b buffer a standing' buffer' fit right meant pt at s =
     let p = s.part in
     let n = length buffer / 8 in
-    let read : p.lines ≡ lines_in a.lines buffer' =
-    sym (ap₂ (λ (k : ℕ) (x : List ℕ). lines_in k x) s.lines s.shown ∙ lines_are_read_lem p.lines buffer (fit held t b i n p held' pt s.solves)) in
+    let read : lines_in a.lines buffer' ≡ Some p.lines =
+    ap₂ (λ (k : ℕ) (x : List ℕ). lines_in k x) s.lines s.shown ∙ lines_are_read_lem p.lines buffer (fit standing t b i n p standing' pt s.solves) in
     record {
-      keys = s.keys ∙ ap keys read;
-      duals = s.duals ∙ ap duals read;
-      sound = λ h. (right held t b i n p held' h pt at s.solves).sound;
-      attacks_win = λ h. subst (AttacksWin t) read (right held t b i n p held' h pt at s.solves).attacks_win;
-      keys_have_lines = λ h e. subst (KeysHaveLines t) read ((right held t b i n p held' h pt at s.solves).keys_have_lines (sym s.ending ∙ e));
-      spent = λ e. meant held t b i n p held' s.solves (sym s.ending ∙ e);
+      lines = p.lines;
+      read = read;
+      keys = s.keys;
+      duals = s.duals;
+      sound = λ h. (right standing t b i n p standing' h pt at s.solves).sound;
+      attacks_win = λ h. (right standing t b i n p standing' h pt at s.solves).attacks_win;
+      keys_have_lines = λ h e. (right standing t b i n p standing' h pt at s.solves).keys_have_lines (sym (ap word s.ending) ∙ e);
+      spent = λ e. meant standing t b i n p standing' s.solves (sym (ap word s.ending) ∙ e);
     }

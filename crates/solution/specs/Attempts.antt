@@ -1,18 +1,19 @@
 -- Trials of all moves.
-use Rattle.std.specs.Prelude.{◌≡◌, ℕ, ◌+◌, ◌≤◌, Bool, true, false, List, Ok, Err, Result}
+use Rattle.std.specs.Prelude.{◌≡◌, ℕ, ◌+◌, ◌*◌, ◌≤◌, Bool, true, false, List, Ok, Err, Result}
 use Rattle.game.specs.Tree.{Moves}
-use Rattle.table.specs.Pairs.{Held}
 use Rattle.search_laws.specs.declared.answer.Verdict.{Verdict}
 use Rattle.search_laws.specs.declared.answer.Verdict.TheVariants as verdict
-use Rattle.search_laws.specs.Run.{Storing}
+use Rattle.table.specs.Storings.{Storing}
+use Rattle.game.specs.Limits.{records_needed}
+use Rattle.search_laws.specs.Calls.{budget_limit}
 use Rattle.solution_laws.specs.Solution as solution
 use Rattle.solution_laws.specs.Solution.{AllTried}
 use Rattle.solution.specs.declared.stop.Stop.{Stop}
 use Rattle.solution.specs.declared.stop.Stop.TheVariants.{Spent}
 
--- the cost of 6,144 trials, each with the largest budget
+-- what as many trials as a position can have moves cost at most
 abbrev pub most : ℕ
-most = 614399993856
+most = records_needed * budget_limit
 
 -- a verdict as a value, if it is one
 abbrev pub value_of : Verdict → Result Bool Stop
@@ -28,6 +29,6 @@ pub record Adds (P : ℕ → Type 0) (n n' : ℕ) : Type 0 where
   pub holds : P cost
 
 -- all moves are tried, or a trial is spent
-abbrev pub Attempted : Storing → ℕ → Held → Moves → List Bool → ℕ → Result (Unit {0}) Stop → Held → ℕ → Type 0
-Attempted stored b held m ws n (Ok u) held' n' = Adds (λ k. AllTried stored b held m ws k held') n n'
-Attempted stored b held m ws n (Err stop) held' n' = (stop ≡ Spent) × Adds (λ k. solution.Stops stored b held m k held') n n'
+abbrev pub Attempted : (S : Storing) → ℕ → S.Standing → Moves → List Bool → ℕ → Result (Unit {0}) Stop → S.Standing → ℕ → Type 0
+Attempted S b standing m ws n (Ok u) standing' n' = Adds (λ k. AllTried S b standing m ws k standing') n n'
+Attempted S b standing m ws n (Err stop) standing' n' = (stop ≡ Spent) × Adds (λ k. solution.Stops S b standing m k standing') n n'

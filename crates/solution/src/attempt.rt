@@ -31,7 +31,7 @@ impl<'g, 't, 'r, G: Game, T: Table> Solver<'g, 't, 'r, G, T> {
         ensures stays { Stays G.current G.earlier self.old self.new }
         ensures flags { self.new.flags ≡ self.old.flags }
         ensures sum { self.new.sum ≡ self.old.sum }
-        ensures tried { Trial T.Table.stored (T.held self.old.table.now) (slice_index_or (next (G.current self.old.game.now)) i nowhere) self.old.budget.amount result (T.held self.new.table.now) }
+        ensures tried { Trial T.storing (T.standing self.old.table.now) (slice_index_or (next (G.current self.old.game.now)) i nowhere) self.old.budget.amount result (T.standing self.new.table.now) }
     {
         self.game.play(i).unwrap();
         let answer = try_position(self.game, self.table, self.budget, self.records);
@@ -44,7 +44,7 @@ impl<'g, 't, 'r, G: Game, T: Table> Solver<'g, 't, 'r, G, T> {
     pub(crate) fn try_moves(&mut self) -> Result<(), Stop>
         requires { self.old.sum ≤ most * 4096 }
         ensures stays { Stays G.current G.earlier self.old self.new }
-        ensures tried { Attempted T.Table.stored self.old.budget.amount (T.held self.old.table.now) (moves (G.current self.old.game.now)) self.new.flags.items self.old.sum result (T.held self.new.table.now) self.new.sum }
+        ensures tried { Attempted T.storing self.old.budget.amount (T.standing self.old.table.now) (moves (G.current self.old.game.now)) self.new.flags.items self.old.sum result (T.standing self.new.table.now) self.new.sum }
     {
         self.flags.clear();
         // a game's moves are numbers, in the trait and in the calls: the number is what is played

@@ -1,4 +1,7 @@
 ghost use Rattle.std.specs.Prelude.{◌≡◌, ◌≤◌, length, Some, None, MatchResult};
+ghost use Rattle.game.specs.Declines.{number};
+ghost use Rattle.game.specs.Limits.{records_needed};
+ghost use Rattle.solution.specs.Limits.{buffer_limit};
 ghost use Rattle.solution.specs.Calls.{declined, Solved, Answered, Right};
 
 use crate::answer::Solution;
@@ -15,8 +18,8 @@ pub const BYTES: usize = 32_768;
 /// Whether a solution with a buffer of so many bytes is made, and if not, why.
 fn accept<G: Game>(game: &G, intended: usize, bytes: usize) -> Result<(), Decline>
     ensures { MatchResult result
-        (λ _. declined (G.current game.now) intended 0 6144 bytes ≡ None)
-        (λ cause. declined (G.current game.now) intended 0 6144 bytes ≡ Some cause) }
+        (λ _. declined (G.current game.now) intended 0 records_needed bytes ≡ None)
+        (λ cause. declined (G.current game.now) intended 0 records_needed bytes ≡ Some (number cause)) }
 {
     if bytes % 8 != 0 || bytes > BYTES {
         return Err(Decline::Buffer);
@@ -40,10 +43,10 @@ fn write_solution<G: Game, T: Table>(
     records: &mut Records,
     buffer: &mut [u8],
 ) -> Solution
-    requires { length buffer.old ≤ 32768 }
+    requires { length buffer.old ≤ buffer_limit }
     ensures at { G.current game.new ≡ G.current game.old }
     ensures path { G.earlier game.new ≡ G.earlier game.old }
-    ensures solved { Solved T.Table.stored (T.held table.old) (G.current game.old) intended budget.amount buffer.old result (T.held table.new) buffer.new }
+    ensures solved { Solved T.storing (T.standing table.old) (G.current game.old) intended budget.amount buffer.old result (T.standing table.new) buffer.new }
 {
     let mut page = Page {
         buffer,
@@ -62,7 +65,7 @@ fn write_solution<G: Game, T: Table>(
     solver.finish(&mut page, intended)
 }
 
-/// The solution of the current position, from the table, with the intended move's number, each trial's budget and the records that trials
+/// The solution of the current position, from where the table stands, with the intended move's number, each trial's budget and the records that trials
 /// may use: its lines, eight bytes each, are written into the buffer from its start on. Declined, with nothing changed, in this order:
 /// `Budget` where the budget is above 99,999,999, `Records` where there are fewer than 6,144 of them, `Buffer` where the buffer's length is
 /// no multiple of 8 or over 32,768, `NotAttacker` where the attacker is not to move, `MoveNumber` where the intended move's number is not
@@ -77,8 +80,8 @@ pub fn solve<G: Game, T: Table>(
 ) -> Result<Solution, Decline>
     ensures at { G.current game.new ≡ G.current game.old }
     ensures path { G.earlier game.new ≡ G.earlier game.old }
-    ensures answered { Answered T.Table.stored (T.held table.old) (G.current game.old) intended budget records.old buffer.old result (T.held table.new) records.new buffer.new }
-    ensures right { Right G.Game.positions (T.held table.old) (G.current game.old) budget result (T.held table.new) buffer.new }
+    ensures answered { Answered T.storing (T.standing table.old) (G.current game.old) intended budget records.old buffer.old result (T.standing table.new) records.new buffer.new }
+    ensures right { Right G.positions T.storing (T.standing table.old) (G.current game.old) budget result (T.standing table.new) buffer.new }
 {
     let budget = Budget::new(budget)?;
     let Some(records) = records.first_chunk_mut() else {

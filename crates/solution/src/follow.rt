@@ -28,7 +28,7 @@ impl<'g, 't, 'r, G: Game, T: Table> Solver<'g, 't, 'r, G, T> {
         requires ready { Ready ply.number (G.current self.old.game.now) page.old self.old.sum }
         requires attacker { state (G.current self.old.game.now) ≡ Attacker }
         ensures stays { Stays G.current G.earlier self.old self.new }
-        ensures attacks { Attacks T.Table.stored self.old.budget.amount ply.number intended (G.current self.old.game.now) (T.held self.old.table.now) page.old self.old.sum result (T.held self.new.table.now) page.new self.new.sum }
+        ensures attacks { Attacks T.storing self.old.budget.amount ply.number intended (G.current self.old.game.now) (T.standing self.old.table.now) page.old self.old.sum result (T.standing self.new.table.now) page.new self.new.sum }
     {
         self.try_moves()?;
         let won = self.flags.as_slice();
@@ -45,7 +45,7 @@ impl<'g, 't, 'r, G: Game, T: Table> Solver<'g, 't, 'r, G, T> {
         requires ready { Ready ply.number (G.current self.old.game.now) page.old self.old.sum }
         requires number { i < length (next (G.current self.old.game.now)) }
         ensures stays { Stays G.current G.earlier self.old self.new }
-        ensures follows { Followed T.Table.stored self.old.budget.amount (ply.number + 1) None (slice_index_or (next (G.current self.old.game.now)) i nowhere) (T.held self.old.table.now) page.old self.old.sum result (T.held self.new.table.now) page.new self.new.sum }
+        ensures follows { Followed T.storing self.old.budget.amount (ply.number + 1) None (slice_index_or (next (G.current self.old.game.now)) i nowhere) (T.standing self.old.table.now) page.old self.old.sum result (T.standing self.new.table.now) page.new self.new.sum }
     {
         self.game.play(i).unwrap();
         let after = self.follow(page, ply.next(), None);
@@ -64,7 +64,7 @@ impl<'g, 't, 'r, G: Game, T: Table> Solver<'g, 't, 'r, G, T> {
         requires ready { Ready ply.number (G.current self.old.game.now) page.old self.old.sum }
         requires attacker { state (G.current self.old.game.now) ≡ Attacker }
         ensures stays { Stays G.current G.earlier self.old self.new }
-        ensures follows { Followed T.Table.stored self.old.budget.amount ply.number intended (G.current self.old.game.now) (T.held self.old.table.now) page.old self.old.sum result (T.held self.new.table.now) page.new self.new.sum }
+        ensures follows { Followed T.storing self.old.budget.amount ply.number intended (G.current self.old.game.now) (T.standing self.old.table.now) page.old self.old.sum result (T.standing self.new.table.now) page.new self.new.sum }
     {
         match self.attack(page, ply, intended)? {
             Some(chosen) => self.follow_move(page, ply, chosen),
@@ -78,7 +78,7 @@ impl<'g, 't, 'r, G: Game, T: Table> Solver<'g, 't, 'r, G, T> {
         requires ready { Ready ply.number (G.current self.old.game.now) page.old self.old.sum }
         requires defender { state (G.current self.old.game.now) ≡ Defender }
         ensures stays { Stays G.current G.earlier self.old self.new }
-        ensures follows { (i : Option ℕ) → Followed T.Table.stored self.old.budget.amount ply.number i (G.current self.old.game.now) (T.held self.old.table.now) page.old self.old.sum result (T.held self.new.table.now) page.new self.new.sum }
+        ensures follows { (i : Option ℕ) → Followed T.storing self.old.budget.amount ply.number i (G.current self.old.game.now) (T.standing self.old.table.now) page.old self.old.sum result (T.standing self.new.table.now) page.new self.new.sum }
     {
         // a game's moves are numbers, in the trait and in the calls: the number is what is played
         for i in 0..self.game.count() {
@@ -98,7 +98,7 @@ impl<'g, 't, 'r, G: Game, T: Table> Solver<'g, 't, 'r, G, T> {
     ) -> Result<(), Stop>
         requires { Ready ply.number (G.current self.old.game.now) page.old self.old.sum }
         ensures stays { Stays G.current G.earlier self.old self.new }
-        ensures follows { Followed T.Table.stored self.old.budget.amount ply.number intended (G.current self.old.game.now) (T.held self.old.table.now) page.old self.old.sum result (T.held self.new.table.now) page.new self.new.sum }
+        ensures follows { Followed T.storing self.old.budget.amount ply.number intended (G.current self.old.game.now) (T.standing self.old.table.now) page.old self.old.sum result (T.standing self.new.table.now) page.new self.new.sum }
     {
         match self.game.state() {
             State::Won | State::NotWon => Ok(()),
@@ -113,7 +113,7 @@ impl<'g, 't, 'r, G: Game, T: Table> Solver<'g, 't, 'r, G, T> {
         requires sum { self.old.sum ≡ 0 }
         ensures stays { Stays G.current G.earlier self.old self.new }
         ensures buffer { page.new.buffer.ghost_name ≡ page.old.buffer.ghost_name }
-        ensures solved { Solved T.Table.stored (T.held self.old.table.now) (G.current self.old.game.now) intended self.old.budget.amount page.old.buffer.now result (T.held self.new.table.now) page.new.buffer.now }
+        ensures solved { Solved T.storing (T.standing self.old.table.now) (G.current self.old.game.now) intended self.old.budget.amount page.old.buffer.now result (T.standing self.new.table.now) page.new.buffer.now }
     {
         let end = self.follow(page, Ply::FIRST, Some(intended));
         Solution {

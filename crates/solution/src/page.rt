@@ -1,4 +1,5 @@
 ghost use Rattle.std.specs.Prelude.{◌*◌, ◌≤◌, length};
+ghost use Rattle.solution.specs.Limits.{buffer_limit};
 
 /// The lines written so far, eight bytes each from the buffer's start on: how many they are, and among them the keys and the duals.
 #[derive(Drop)]
@@ -7,7 +8,7 @@ pub(crate) struct Page<'a> {
     pub lines: usize,
     pub keys: usize,
     pub duals: usize,
-    ghost short: { length buffer.now ≤ 32768 },
+    ghost short: { length buffer.now ≤ buffer_limit },
     ghost fitting: { 8 * lines ≤ length buffer.now },
     ghost keys_among: { keys ≤ lines },
     ghost duals_among: { duals ≤ lines },

@@ -1,49 +1,17 @@
--- The lines of a solution have eight bytes each, and can be read again.
-use Rattle.std.proofs.Common.{◌≡◌, ℕ, suc, ◌+◌, ◌-◌, ◌*◌, ◌/◌, ◌%◌, ◌<◌, ◌≤◌, Bool, true, false, cond, eqb, List, [], ◌∷◌, ◌++◌, length, take, drop, Option, refl, ap, ◌∙◌, append_assoc, arith}
+-- The lines of a solution have eight bytes each.
+use Rattle.std.proofs.Common.{◌≡◌, ℕ, suc, ◌+◌, ◌<◌, ◌≤◌, Bool, true, false, cond, eqb, List, [], ◌∷◌, length, Option, ap, arith}
 use Rattle.std.specs.List.{AllByRecursion}
 use Rattle.std.proofs.ByRecursion.{All-get_or, All-append, All-take}
-use Rattle.std.proofs.lemmas.List.{take_at, drop_at}
 use Rattle.game.specs.declared.state.State.TheVariants.{Attacker}
 use Rattle.game.specs.Rules.{Rules}
 use Rattle.game.specs.Tree.{Tree, Reading, Moves, nowhere, state, rank, moves, successors, texts, next, words, ended}
-use Rattle.table.specs.Pairs.{Held}
-use Rattle.search_laws.specs.Run.{Storing}
-use Rattle.solution_laws.specs.declared.sign.Sign.{Sign}
-use Rattle.solution_laws.specs.declared.sign.Sign.TheVariants.{Chosen, Other, Reply}
-use Rattle.solution_laws.specs.Lines.{Line, mark, bytes, all_bytes, sign_of, line_of, lines_in, Fits, LinesAreRead}
+use Rattle.table.specs.Storings.{Storing}
+use Rattle.solution_laws.specs.Lines.{Fits}
 use Rattle.solution_laws.specs.Solution.{other_line, reply_line, others_from, wins, Part, Solves, won, not_won, stopped, no_win, full, win, defends, Replies, no_reply, no_room, last, reply}
 use Rattle.solution_laws.specs.Claims.{SolutionsFit}
 use Rattle.solution_laws.proofs.Texts.{length-texts}
 use Rattle.solution_laws.proofs.Choice.{true_below, best-wins}
 use Rattle.solution_laws.proofs.Spent.{tried-length}
-
--- reading
-
-sign-back : (s : Sign) → sign_of (mark s) ≡ s
-sign-back Chosen = refl
-sign-back Other = refl
-sign-back Reply = refl
-
-line-back : (l : Line) → line_of (bytes l) ≡ l
-line-back l =
-    let p : 10 * (48 + l.ply / 10 - 48) + (48 + l.ply % 10 - 48) ≡ l.ply = omega arith in
-    λ i. record { ply = p i; sign = sign-back l.sign i; text = l.text }
-
-read_back : (ls : List Line) (rest : List ℕ) → AllByRecursion Fits ls → lines_in (length ls) (all_bytes ls ++ rest) ≡ ls
-read_back [] rest f = refl
-read_back (l ∷ ls) rest f =
-    let n : length (bytes l) ≡ 8 = omega (arith, f.0.1) in
-    let e = append_assoc (bytes l) (all_bytes ls) rest in
-    let t : take 8 ((bytes l ++ all_bytes ls) ++ rest) ≡ bytes l = ap (take 8) e ∙ take_at (bytes l) (all_bytes ls ++ rest) 8 n in
-    let d : drop 8 ((bytes l ++ all_bytes ls) ++ rest) ≡ all_bytes ls ++ rest = ap (drop 8) e ∙ drop_at (bytes l) (all_bytes ls ++ rest) 8 n in
-    let a : line_of (take 8 ((bytes l ++ all_bytes ls) ++ rest)) ≡ l = ap line_of t ∙ line-back l in
-    let b : lines_in (length ls) (drop 8 ((bytes l ++ all_bytes ls) ++ rest)) ≡ ls = ap (lines_in (length ls)) d ∙ read_back ls rest f.1 in
-    λ i. a i ∷ b i
-
-pub lines_are_read_lem : LinesAreRead
-lines_are_read_lem ls before f = read_back ls (drop (8 * length ls) before) f
-
--- fitting
 
 others-fit : (k j i : ℕ) (ws : List Bool) (xs : List (List ℕ)) → k < 100 → AllByRecursion (λ x. length x ≡ 5) xs → AllByRecursion Fits (others_from k j i ws xs)
 others-fit k j i [] xs l f = tt
@@ -59,12 +27,12 @@ wins-fit : (k j : ℕ) (ws : List Bool) (xs : List (List ℕ)) → k < 100 → j
 wins-fit k j ws xs l h f = ((l, All-get_or (λ x. length x ≡ 5) xs j [] h f), others-fit k j 0 ws xs l f)
 
 module _ {start : Tree} {positions : Tree → Type 0} {depth width : ℕ} {reading : List ℕ → ℕ → Reading} (rules : Rules start positions depth width reading)
-    (stored : Storing) (b : ℕ) where
+    (S : Storing) (b : ℕ) where
   attacker_rank : (t : Tree) → positions t → state t ≡ Attacker → 0 < rank t
   attacker_rank t pt e = rules.ranked t pt (ap ended e)
 
   mutual
-    solves_fit : {k : ℕ} {i : Option ℕ} {t : Tree} {held : Held} {room : ℕ} {p : Part} {held' : Held} → Solves stored b k i t held room p held'
+    solves_fit : {k : ℕ} {i : Option ℕ} {t : Tree} {standing : S.Standing} {room : ℕ} {p : Part} {standing' : S.Standing} → Solves S b k i t standing room p standing'
         → positions t → k + rank t ≤ 33 → AllByRecursion Fits p.lines
     solves_fit (won e) pt l = tt
     solves_fit (not_won e) pt l = tt
@@ -89,7 +57,7 @@ module _ {start : Tree} {positions : Tree → Type 0} {depth width : ℕ} {readi
         let a = rules.ranked t pt (ap ended e) in
         replies_fit rs (rank t) (rules.closed t pt) (rules.falls t pt) (rules.five t pt) (omega arith) (omega arith)
 
-    replies_fit : {k : ℕ} {m : Moves} {held : Held} {room : ℕ} {p : Part} {held' : Held} → Replies stored b k m held room p held'
+    replies_fit : {k : ℕ} {m : Moves} {standing : S.Standing} {room : ℕ} {p : Part} {standing' : S.Standing} → Replies S b k m standing room p standing'
         → (r : ℕ) → AllByRecursion positions (successors m) → AllByRecursion (λ u. rank u < r) (successors m) → AllByRecursion (λ x. length x ≡ 5) (texts m) → k < 100 → k + r ≤ 33 → AllByRecursion Fits p.lines
     replies_fit no_reply r c f x l s = tt
     replies_fit (no_room z) r c f x l s = tt
@@ -98,8 +66,8 @@ module _ {start : Tree} {positions : Tree → Type 0} {depth width : ℕ} {readi
         All-append Fits (reply_line k y ∷ p.lines) q.lines ((l, x.0), solves_fit more c.0 (omega (arith, f.0))) (replies_fit rs r c.1 f.1 x.1 l s)
 
 pub solutions_fit : {start : Tree} {positions : Tree → Type 0} {depth width : ℕ} {reading : List ℕ → ℕ → Reading} → Rules start positions depth width reading
-    → (stored : Storing) → SolutionsFit positions stored
-solutions_fit rules stored held t b i room p held' pt sol =
+    → (S : Storing) → SolutionsFit positions S
+solutions_fit rules S standing t b i room p standing' pt sol =
     let s = rules.shallow t pt in
     let d = rules.low in
-    solves_fit rules stored b sol pt (omega arith)
+    solves_fit rules S b sol pt (omega arith)

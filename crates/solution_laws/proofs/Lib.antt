@@ -1,4 +1,5 @@
 pub mod Clash
+pub mod Endings
 pub mod Texts
 pub mod Choice
 pub mod Reached
@@ -8,3 +9,4 @@ pub mod Spent
 pub mod Agree
 pub mod Ends
 pub mod Fitting
+pub mod Reading

@@ -6,9 +6,9 @@ use Rattle.std.proofs.lemmas.List.{get_or-map, length-map}
 use Rattle.game.specs.declared.state.State.TheVariants.{Attacker}
 use Rattle.game.specs.Rules.{Rules}
 use Rattle.game.specs.Tree.{Tree, Reading, Moves, nowhere, state, moves, successors, texts, next, words, minimax}
-use Rattle.table.specs.Pairs.{Held}
 use Rattle.search_laws.specs.declared.answer.Verdict.TheVariants.{Won as IsWon, NotWon as IsNotWon}
-use Rattle.search_laws.specs.Run.{Storing}
+use Rattle.table.specs.Storings.{Storing}
+use Rattle.search_laws.specs.Words.{word as said}
 use Rattle.search_laws.specs.Trial.{verdict_of}
 use Rattle.search_laws.specs.Claims.{Sound, TrialsAreRight}
 use Rattle.solution_laws.specs.declared.ending.Ending.TheVariants.{Done}
@@ -16,31 +16,32 @@ use Rattle.solution_laws.specs.Lines.{Line}
 use Rattle.solution_laws.specs.Solution.{AllTried, no_more, tried, Stops, spent, later, chosen_line, reply_line, others_from, wins, Part, Solves, won, not_won, stopped, no_win, full, win, defends, Replies, no_reply, no_room, last, reply}
 use Rattle.solution_laws.specs.Claims.{by_text, last_at, reached, KeysHaveLines, SolutionsAreRight}
 use Rattle.solution_laws.proofs.Clash.{clash}
+use Rattle.solution_laws.proofs.Endings.{ends_done}
 use Rattle.solution_laws.proofs.Texts.{Distinct, by-text-at, length-texts}
 use Rattle.solution_laws.proofs.Choice.{true_below, best-wins, best_none}
 use Rattle.solution_laws.proofs.Reached.{Deep, deep-join, deep-less, reached-deep, reached-next, RightFrom, right-join, attacks_win, Winning, AllWinning, winning_deep, winning_take, winning_right}
 use Rattle.solution_laws.proofs.Wins.{others_winning, no_lead, has_join, has_win}
 
 module _ (positions : Tree → Type 0) (closed : (t : Tree) → positions t → AllByRecursion positions (next t)) (distinct : (t : Tree) → positions t → Distinct (moves t))
-    (stored : Storing) (right : TrialsAreRight positions stored) (b : ℕ) where
+    (S : Storing) (right : TrialsAreRight positions S) (b : ℕ) where
   -- all moves tried from a sound table: the ones that win are the ones that minimax says
-  tried_right : {held : Held} {m : Moves} {ws : List Bool} {n : ℕ} {held' : Held} → AllTried stored b held m ws n held'
-      → AllByRecursion positions (successors m) → Sound positions held → Sound positions held' × (ws ≡ map minimax (successors m))
+  tried_right : {standing : S.Standing} {m : Moves} {ws : List Bool} {n : ℕ} {standing' : S.Standing} → AllTried S b standing m ws n standing'
+      → AllByRecursion positions (successors m) → Sound positions (S.shows standing) → Sound positions (S.shows standing') × (ws ≡ map minimax (successors m))
   tried_right no_more l s = (s, refl)
-  tried_right {held = held} (tried {held' = h} {x = x} {t = t} {m = m} {w = w} {a = a} r v more) l s =
-      let f = right held t b a h s l.0 r in
+  tried_right {standing = standing} (tried {standing' = h} {x = x} {t = t} {m = m} {w = w} {a = a} r v more) l s =
+      let f = right standing t b a h s l.0 r in
       let k = tried_right more l.1 f.0 in
-      let e : w ≡ minimax t = value w (v) f.1 f.2 in
+      let e : w ≡ minimax t = value w v (λ z. f.1 (ap said z)) (λ z. f.2 (ap said z)) in
       (k.0, λ i. e i ∷ k.1 i)
     where
       value : (w : Bool) → a.verdict ≡ verdict_of w → (a.verdict ≡ IsWon → minimax t ≡ true) → (a.verdict ≡ IsNotWon → minimax t ≡ false) → w ≡ minimax t
       value true e p q = sym (p e)
       value false e p q = sym (q e)
 
-  stops_sound : {held : Held} {m : Moves} {n : ℕ} {held' : Held} → Stops stored b held m n held' → AllByRecursion positions (successors m) → Sound positions held → Sound positions held'
-  stops_sound {held = held} (spent {held' = h} {t = t} {a = a} r v) l s = (right held t b a h s l.0 r).0
-  stops_sound {held = held} (later {held' = h} {t = t} {a = a} w r v more) l s =
-      stops_sound more l.1 (right held t b a h s l.0 r).0
+  stops_sound : {standing : S.Standing} {m : Moves} {n : ℕ} {standing' : S.Standing} → Stops S b standing m n standing' → AllByRecursion positions (successors m) → Sound positions (S.shows standing) → Sound positions (S.shows standing')
+  stops_sound {standing = standing} (spent {standing' = h} {t = t} {a = a} r v) l s = (right standing t b a h s l.0 r).0
+  stops_sound {standing = standing} (later {standing' = h} {t = t} {a = a} w r v more) l s =
+      stops_sound more l.1 (right standing t b a h s l.0 r).0
 
   -- the attacker's lines at a position
   winning_at : (t : Tree) → positions t → (i : ℕ) → get_or (map minimax (next t)) i false ≡ true → Winning t (get_or (words t) i [])
@@ -58,15 +59,15 @@ module _ (positions : Tree → Type 0) (closed : (t : Tree) → positions t → 
       (refl, h j g, others_winning n j t 0 ws (words t) h)
 
   -- a part of a solution: the table stays sound, its lines are of ply n + 1 and more, and its attacker's lines are for winning moves
-  pub record Fine (start : Tree) (above : List Line) (n : ℕ) (p : Part) (held' : Held) : Type 0 where
-    pub sound : Sound positions held'
+  pub record Fine (start : Tree) (above : List Line) (n : ℕ) (p : Part) (standing' : S.Standing) : Type 0 where
+    pub sound : Sound positions (S.shows standing')
     pub deep : Deep n p.lines
     pub fine : RightFrom start above p.lines
 
   mutual
-    solves_fine : {k : ℕ} {i : Option ℕ} {t : Tree} {held : Held} {room : ℕ} {p : Part} {held' : Held} → Solves stored b k i t held room p held'
-        → (start : Tree) (above : List Line) (n : ℕ) → k ≡ suc n → positions t → Sound positions held → reached start above n ≡ Some t
-        → Fine start above n p held'
+    solves_fine : {k : ℕ} {i : Option ℕ} {t : Tree} {standing : S.Standing} {room : ℕ} {p : Part} {standing' : S.Standing} → Solves S b k i t standing room p standing'
+        → (start : Tree) (above : List Line) (n : ℕ) → k ≡ suc n → positions t → Sound positions (S.shows standing) → reached start above n ≡ Some t
+        → Fine start above n p standing'
     solves_fine (won e) start above n q pt s r = record { sound = s; deep = tt; fine = tt }
     solves_fine (not_won e) start above n q pt s r = record { sound = s; deep = tt; fine = tt }
     solves_fine {t = t} (stopped e st) start above n q pt s r = record { sound = stops_sound st (closed t pt) s; deep = tt; fine = tt }
@@ -77,7 +78,7 @@ module _ (positions : Tree → Type 0) (closed : (t : Tree) → positions t → 
         let w' = subst (λ (k : ℕ). AllWinning n t (wins k j ws (words t))) (sym q) w in
         let v = winning_take n t room (wins k j ws (words t)) w' in
         record { sound = f.0; deep = winning_deep n t (take room (wins k j ws (words t))) v; fine = winning_right start above n t (take room (wins k j ws (words t))) r v }
-    solves_fine {k = k} {i = i} {t = t} {room = room} (win {held' = h} {j = j} {ws = ws} {p = p} e tr be l more) start above n q pt s r =
+    solves_fine {k = k} {i = i} {t = t} {room = room} (win {standing' = h} {j = j} {ws = ws} {p = p} e tr be l more) start above n q pt s r =
         let f = tried_right tr (closed t pt) s in
         let g = best-wins i ws j be in
         let ls = wins k j ws (words t) in
@@ -99,10 +100,10 @@ module _ (positions : Tree → Type 0) (closed : (t : Tree) → positions t → 
     solves_fine {t = t} (defends e rs) start above n q pt s r =
         replies_fine rs start above n t q s r (closed t pt) (λ i l. by-text-at (moves t) (distinct t pt) i l)
 
-    replies_fine : {k : ℕ} {m : Moves} {held : Held} {room : ℕ} {p : Part} {held' : Held} → Replies stored b k m held room p held'
-        → (start : Tree) (above : List Line) (n : ℕ) (t : Tree) → k ≡ suc n → Sound positions held → reached start above n ≡ Some t
+    replies_fine : {k : ℕ} {m : Moves} {standing : S.Standing} {room : ℕ} {p : Part} {standing' : S.Standing} → Replies S b k m standing room p standing'
+        → (start : Tree) (above : List Line) (n : ℕ) (t : Tree) → k ≡ suc n → Sound positions (S.shows standing) → reached start above n ≡ Some t
         → AllByRecursion positions (successors m) → ((i : ℕ) → i < length (successors m) → by_text (get_or (texts m) i []) (moves t) ≡ Some (get_or (successors m) i nowhere))
-        → Fine start above n p held'
+        → Fine start above n p standing'
     replies_fine no_reply start above n t q s r l d = record { sound = s; deep = tt; fine = tt }
     replies_fine (no_room z) start above n t q s r l d = record { sound = s; deep = tt; fine = tt }
     replies_fine {k = k} (last {x = x} {t = u} {p = p} z more e) start above n t q s r l d =
@@ -128,8 +129,8 @@ module _ (positions : Tree → Type 0) (closed : (t : Tree) → positions t → 
           fine = right-join start above (y ∷ p.lines) p'.lines fy rest.fine;
         }
 
-  keys_in : {k : ℕ} {i : Option ℕ} {t : Tree} {held : Held} {room : ℕ} {p : Part} {held' : Held} → Solves stored b k i t held room p held'
-      → k ≡ 1 → state t ≡ Attacker → positions t → Sound positions held → p.ending ≡ Done → KeysHaveLines t p.lines
+  keys_in : {k : ℕ} {i : Option ℕ} {t : Tree} {standing : S.Standing} {room : ℕ} {p : Part} {standing' : S.Standing} → Solves S b k i t standing room p standing'
+      → k ≡ 1 → state t ≡ Attacker → positions t → Sound positions (S.shows standing) → p.ending ≡ Done → KeysHaveLines t p.lines
   keys_in (won e) q a pt s d i l w = clash (cc)
   keys_in (not_won e) q a pt s d i l w = clash (cc)
   keys_in (stopped e st) q a pt s d i l w = clash (cc)
@@ -147,7 +148,7 @@ module _ (positions : Tree → Type 0) (closed : (t : Tree) → positions t → 
   keys_in (defends e rs) q a pt s d i l w = clash (cc)
 
 pub solutions_are_right_lem : {start : Tree} {positions : Tree → Type 0} {depth width : ℕ} {reading : List ℕ → ℕ → Reading} → Rules start positions depth width reading
-    → (stored : Storing) → TrialsAreRight positions stored → SolutionsAreRight positions stored
-solutions_are_right_lem {positions = positions} rules stored right held t b i room p held' s pt a sol =
-    let f = solves_fine positions rules.closed rules.distinct stored right b sol t [] 0 refl pt s refl in
-    record { sound = f.sound; attacks_win = attacks_win t p.lines f.fine; keys_have_lines = keys_in positions rules.closed rules.distinct stored right b sol refl a pt s }
+    → (S : Storing) → TrialsAreRight positions S → SolutionsAreRight positions S
+solutions_are_right_lem {positions = positions} rules S right standing t b i room p standing' s pt a sol =
+    let f = solves_fine positions rules.closed rules.distinct S right b sol t [] 0 refl pt s refl in
+    record { sound = f.sound; attacks_win = attacks_win t p.lines f.fine; keys_have_lines = λ e. keys_in positions rules.closed rules.distinct S right b sol refl a pt s (ends_done p.ending e) }

@@ -1,16 +1,16 @@
 -- What holds of solutions.
-use Rattle.std.specs.Prelude.{◌≡◌, ℕ, zero, suc, ◌-◌, ◌<◌, true, cond, ◌&&◌, List, [], ◌∷◌, ◌++◌, length, Some, None, Option, ◌==◌, slice_index_or}
+use Rattle.std.specs.Prelude.{◌≡◌, ℕ, zero, suc, ◌-◌, ◌<◌, true, cond, ◌&&◌, List, [], ◌∷◌, ◌++◌, length, Some, None, Option, ◌==◌, codes, slice_index_or}
 use Rattle.std.specs.List.{AllByRecursion}
 use Rattle.std.specs.Str.{bytes_eq}
 use Rattle.game.specs.declared.state.State.TheVariants.{Attacker}
 use Rattle.game.specs.Tree.{Tree, Moves, none, move, nowhere, state, moves, next, words, minimax}
-use Rattle.table.specs.Pairs.{Held}
-use Rattle.search_laws.specs.Run.{Storing}
+use Rattle.table.specs.Pairs.{Shown}
+use Rattle.table.specs.Storings.{Storing}
 use Rattle.search_laws.specs.Trial.{need, share}
 use Rattle.search_laws.specs.Claims.{Sound}
-use Rattle.solution_laws.specs.declared.ending.Ending.TheVariants.{Done, Spent}
 use Rattle.solution_laws.specs.Lines.{Line, Fits, attacks, leads}
 use Rattle.solution_laws.specs.Solution.{Solution, Part}
+use Rattle.solution_laws.specs.Words.{word}
 
 -- the position that the move with a text leads to
 abbrev pub by_text : List ℕ → Moves → Option Tree
@@ -54,41 +54,42 @@ KeysHaveLines start lines =
     (above : List Line) × (l : Line) × (below : List Line) × (lines ≡ above ++ (l ∷ below))
     × (l.ply ≡ 1) × (attacks l.sign ≡ true) × (l.text ≡ slice_index_or (words start) i [])
 
--- From a sound table a solution leaves a sound table, its attacker's lines are for moves that win, and if it is done each key has a line.
-pub record SolutionIsRight (positions : Tree → Type 0) (t : Tree) (p : Part) (held' : Held) : Type 0 where
-  pub sound : Sound positions held'
+-- What is right of a solution: the table then shows no false decided pair, its attacker's lines are for moves that win, and if it is done each
+-- key has a line. So is every solution from where a table shows no false decided pair.
+pub record SolutionIsRight (positions : Tree → Type 0) (t : Tree) (p : Part) (shown : Shown) : Type 0 where
+  pub sound : Sound positions shown
   pub attacks_win : AttacksWin t p.lines
-  pub keys_have_lines : p.ending ≡ Done → KeysHaveLines t p.lines
+  pub keys_have_lines : word p.ending ≡ codes "done" → KeysHaveLines t p.lines
 
 abbrev pub SolutionsAreRight : (Tree → Type 0) → Storing → Type 0
-SolutionsAreRight positions stored =
-    (held : Held) (t : Tree) (b i room : ℕ) (p : Part) (held' : Held) → Sound positions held → positions t → state t ≡ Attacker →
-    Solution stored b i t held room p held' → SolutionIsRight positions t p held'
+SolutionsAreRight positions S =
+    (standing : S.Standing) (t : Tree) (b i room : ℕ) (p : Part) (standing' : S.Standing) → Sound positions (S.shows standing) → positions t → state t ≡ Attacker →
+    Solution S b i t standing room p standing' → SolutionIsRight positions t p (S.shows standing')
 
--- the positions that moves reach from a position
-pub data Reaches (t : Tree) : Tree → Type 0 where
-  here : Reaches t t
-  further : {u : Tree} → Reaches t u → (i : ℕ) → i < length (next u) → Reaches t (slice_index_or (next u) i nowhere)
+-- the positions that follow on a position, after one move or more
+pub data Follows (t : Tree) : Tree → Type 0 where
+  at_once : (i : ℕ) → i < length (next t) → Follows t (slice_index_or (next t) i nowhere)
+  further : {u : Tree} → Follows t u → (i : ℕ) → i < length (next u) → Follows t (slice_index_or (next u) i nowhere)
 
--- A solution says spent only where some position that moves reach from its start needs more than the share.
+-- A solution says spent only where some position that follows on its start needs more than the share.
 abbrev pub SpentIsMeant : Storing → Type 0
-SpentIsMeant stored =
-    (held : Held) (t : Tree) (b i room : ℕ) (p : Part) (held' : Held) → Solution stored b i t held room p held' → p.ending ≡ Spent →
-    (u : Tree) × Reaches t u × (share b < need u)
+SpentIsMeant S =
+    (standing : S.Standing) (t : Tree) (b i room : ℕ) (p : Part) (standing' : S.Standing) → Solution S b i t standing room p standing' →
+    word p.ending ≡ codes "spent" → (u : Tree) × Follows t u × (share b < need u)
 
--- A solution has one part and one table after it.
+-- A solution has one part, and one standing of the table after it.
 abbrev pub SolutionsAgree : Storing → Type 0
-SolutionsAgree stored =
-    (held : Held) (t : Tree) (b i room : ℕ) (p p' : Part) (h h' : Held) →
-    Solution stored b i t held room p h → Solution stored b i t held room p' h' → (p ≡ p') × (h ≡ h')
+SolutionsAgree S =
+    (standing : S.Standing) (t : Tree) (b i room : ℕ) (p p' : Part) (standing' standing'' : S.Standing) →
+    Solution S b i t standing room p standing' → Solution S b i t standing room p' standing'' → (p ≡ p') × (standing' ≡ standing'')
 
 -- Every solution comes to an end.
 abbrev pub SolutionsEnd : Storing → Type 0
-SolutionsEnd stored =
-    (held : Held) (t : Tree) (b i room : ℕ) → (p : Part) × (held' : Held) × Solution stored b i t held room p held'
+SolutionsEnd S =
+    (standing : S.Standing) (t : Tree) (b i room : ℕ) → (p : Part) × (standing' : S.Standing) × Solution S b i t standing room p standing'
 
 -- Each line of a solution has eight bytes.
 abbrev pub SolutionsFit : (Tree → Type 0) → Storing → Type 0
-SolutionsFit positions stored =
-    (held : Held) (t : Tree) (b i room : ℕ) (p : Part) (held' : Held) → positions t → Solution stored b i t held room p held' →
+SolutionsFit positions S =
+    (standing : S.Standing) (t : Tree) (b i room : ℕ) (p : Part) (standing' : S.Standing) → positions t → Solution S b i t standing room p standing' →
     AllByRecursion Fits p.lines

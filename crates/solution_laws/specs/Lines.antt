@@ -1,5 +1,5 @@
 -- The lines of a solution: what they say, their eight bytes, how they are read again, and how they are counted.
-use Rattle.std.specs.Prelude.{◌≡◌, ℕ, zero, suc, ◌+◌, ◌-◌, ◌*◌, ◌/◌, ◌%◌, ◌<◌, Bool, true, false, cond, not, ◌&&◌, List, [], ◌∷◌, ◌++◌, length, take, drop, ◌==◌, slice_index_or}
+use Rattle.std.specs.Prelude.{◌≡◌, ℕ, zero, suc, ◌+◌, ◌-◌, ◌*◌, ◌/◌, ◌%◌, ◌<◌, Bool, cond, not, ◌&&◌, ◌||◌, List, [], ◌∷◌, ◌++◌, length, take, drop, Some, None, Option, ◌==◌, nat_le, slice_index_or}
 use Rattle.std.specs.List.{AllByRecursion}
 use Rattle.solution_laws.specs.declared.sign.Sign.{Sign}
 use Rattle.solution_laws.specs.declared.sign.Sign.TheVariants.{Chosen, Other, Reply}
@@ -10,7 +10,7 @@ pub record Line : Type 0 where
   pub sign : Sign
   pub text : List ℕ
 
--- the signs are `!`, `+` and `.`
+-- the value of each sign: `!`, `+` and `.`
 abbrev pub mark : Sign → ℕ
 mark Chosen = 33
 mark Other = 43
@@ -28,16 +28,29 @@ all_bytes (l ∷ ls) = bytes l ++ all_bytes ls
 abbrev pub written_over : List Line → List ℕ → List ℕ
 written_over ls before = all_bytes ls ++ drop (8 * length ls) before
 
--- the line that eight bytes say, and the first n lines in a buffer
-abbrev pub sign_of : ℕ → Sign
-sign_of c = cond (c == 33) Chosen (cond (c == 43) Other Reply)
+-- the sign and the digit that a byte is, if it is one
+abbrev pub sign_of : ℕ → Option Sign
+sign_of c = cond (c == 33) (Some Chosen) (cond (c == 43) (Some Other) (cond (c == 46) (Some Reply) None))
 
-abbrev pub line_of : List ℕ → Line
-line_of bs = record { ply = 10 * (slice_index_or bs 0 48 - 48) + (slice_index_or bs 1 48 - 48); sign = sign_of (slice_index_or bs 2 46); text = drop 3 bs }
+abbrev pub digit_of : ℕ → Option ℕ
+digit_of c = cond (nat_le 48 c && nat_le c 57) (Some (c - 48)) None
 
-abbrev pub lines_in : ℕ → List ℕ → List Line
-lines_in zero bs = []
-lines_in (suc n) bs = line_of (take 8 bs) ∷ lines_in n (drop 8 bs)
+-- The line that eight bytes say, if they say one: two digits, a sign and a text of five bytes.
+abbrev pub line_from : Option ℕ → Option ℕ → Option Sign → List ℕ → Option Line
+line_from (Some tens) (Some ones) (Some sign) text = cond (length text == 5) (Some (record { ply = 10 * tens + ones; sign = sign; text = text })) None
+line_from tens ones sign text = None
+
+abbrev pub line_of : List ℕ → Option Line
+line_of bs = line_from (digit_of (slice_index_or bs 0 0)) (digit_of (slice_index_or bs 1 0)) (sign_of (slice_index_or bs 2 0)) (drop 3 bs)
+
+-- the first n lines in a buffer, if there are so many
+abbrev pub before_them : Option Line → Option (List Line) → Option (List Line)
+before_them (Some l) (Some ls) = Some (l ∷ ls)
+before_them l ls = None
+
+abbrev pub lines_in : ℕ → List ℕ → Option (List Line)
+lines_in zero bs = Some []
+lines_in (suc n) bs = before_them (line_of (take 8 bs)) (lines_in n (drop 8 bs))
 
 -- a line that has eight bytes: a ply of two digits, a text of five bytes
 abbrev pub Fits : Line → Type 0
@@ -45,18 +58,20 @@ Fits l = (l.ply < 100) × (length l.text ≡ 5)
 
 -- The lines written into a buffer can be read again: its bytes say what they are.
 abbrev pub LinesAreRead : Type 0
-LinesAreRead = (ls : List Line) (before : List ℕ) → AllByRecursion Fits ls → lines_in (length ls) (written_over ls before) ≡ ls
+LinesAreRead = (ls : List Line) (before : List ℕ) → AllByRecursion Fits ls → lines_in (length ls) (written_over ls before) ≡ Some ls
+
+-- Nothing else is read as lines: where lines are read, their bytes are what the buffer begins with.
+abbrev pub OnlyLinesAreRead : Type 0
+OnlyLinesAreRead =
+    (n : ℕ) (buffer : List ℕ) (ls : List Line) → lines_in n buffer ≡ Some ls →
+    (length ls ≡ n) × AllByRecursion Fits ls × (take (8 * n) buffer ≡ all_bytes ls)
 
 -- an attacker's line has `!` or `+`, and a line that leads on has `!` or `.`
 abbrev pub attacks : Sign → Bool
-attacks Chosen = true
-attacks Other = true
-attacks Reply = false
+attacks s = mark s == 33 || mark s == 43
 
 abbrev pub leads : Sign → Bool
-leads Chosen = true
-leads Other = false
-leads Reply = true
+leads s = mark s == 33 || mark s == 46
 
 -- the keys are the attacker's lines of ply 1, and the duals the lines with `+` of the other plies
 abbrev pub is_key : Line → Bool

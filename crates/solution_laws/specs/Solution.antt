@@ -2,10 +2,9 @@
 use Rattle.std.specs.Prelude.{◌≡◌, ℕ, suc, ◌+◌, ◌-◌, ◌<◌, ◌≤◌, Bool, false, cond, List, [], ◌∷◌, ◌++◌, length, take, Some, None, Option, ◌==◌, ◌≢◌, slice_index_or}
 use Rattle.game.specs.declared.state.State.TheVariants.{Won, NotWon, Attacker, Defender}
 use Rattle.game.specs.Tree.{Tree, Moves, none, move, nowhere, state, moves, next, words}
-use Rattle.table.specs.Pairs.{Held}
 use Rattle.search_laws.specs.declared.answer.Verdict.TheVariants.{Spent as IsSpent}
 use Rattle.search_laws.specs.declared.answer.Answer.{Answer}
-use Rattle.search_laws.specs.Run.{Storing}
+use Rattle.table.specs.Storings.{Storing}
 use Rattle.search_laws.specs.Trial.{Trial, verdict_of}
 use Rattle.solution_laws.specs.declared.sign.Sign.TheVariants.{Chosen, Other, Reply}
 use Rattle.solution_laws.specs.declared.ending.Ending.{Ending}
@@ -16,20 +15,20 @@ use Rattle.solution_laws.specs.Lines.{Line}
 abbrev pub cost : Answer → ℕ
 cost a = a.expansions + a.entries
 
--- All moves are tried, each on its successor with the full budget, in order: which of them win, the sum, and the table after it.
-pub data AllTried (stored : Storing) (b : ℕ) : Held → Moves → List Bool → ℕ → Held → Type 0 where
-  no_more : {held : Held} → AllTried stored b held none [] 0 held
-  tried : {held held' held'' : Held} {x : List ℕ} {t : Tree} {m : Moves} {w : Bool} {ws : List Bool} {a : Answer} {n : ℕ} →
-      Trial stored held t b a held' → a.verdict ≡ verdict_of w → AllTried stored b held' m ws n held'' →
-      AllTried stored b held (move x t m) (w ∷ ws) (cost a + n) held''
+-- All moves are tried, each on its successor with the full budget, in order: which of them win, the sum, and where the table then stands.
+pub data AllTried (S : Storing) (b : ℕ) : S.Standing → Moves → List Bool → ℕ → S.Standing → Type 0 where
+  no_more : {standing : S.Standing} → AllTried S b standing none [] 0 standing
+  tried : {standing standing' standing'' : S.Standing} {x : List ℕ} {t : Tree} {m : Moves} {w : Bool} {ws : List Bool} {a : Answer} {n : ℕ} →
+      Trial S standing t b a standing' → a.verdict ≡ verdict_of w → AllTried S b standing' m ws n standing'' →
+      AllTried S b standing (move x t m) (w ∷ ws) (cost a + n) standing''
 
--- A trial is spent: the moves up to that one are tried, with the sum and the table after it.
-pub data Stops (stored : Storing) (b : ℕ) : Held → Moves → ℕ → Held → Type 0 where
-  spent : {held held' : Held} {x : List ℕ} {t : Tree} {m : Moves} {a : Answer} →
-      Trial stored held t b a held' → a.verdict ≡ IsSpent → Stops stored b held (move x t m) (cost a) held'
-  later : {held held' held'' : Held} {x : List ℕ} {t : Tree} {m : Moves} {a : Answer} {n : ℕ} (w : Bool) →
-      Trial stored held t b a held' → a.verdict ≡ verdict_of w → Stops stored b held' m n held'' →
-      Stops stored b held (move x t m) (cost a + n) held''
+-- A trial is spent: the moves up to that one are tried, with the sum and where the table then stands.
+pub data Stops (S : Storing) (b : ℕ) : S.Standing → Moves → ℕ → S.Standing → Type 0 where
+  spent : {standing standing' : S.Standing} {x : List ℕ} {t : Tree} {m : Moves} {a : Answer} →
+      Trial S standing t b a standing' → a.verdict ≡ IsSpent → Stops S b standing (move x t m) (cost a) standing'
+  later : {standing standing' standing'' : S.Standing} {x : List ℕ} {t : Tree} {m : Moves} {a : Answer} {n : ℕ} (w : Bool) →
+      Trial S standing t b a standing' → a.verdict ≡ verdict_of w → Stops S b standing' m n standing'' →
+      Stops S b standing (move x t m) (cost a + n) standing''
 
 -- the number of the first move that wins
 abbrev pub onward : Option ℕ → Option ℕ
@@ -80,46 +79,46 @@ abbrev pub then : List Line → ℕ → Part → Part
 then ls n p = record { ending = p.ending; lines = ls ++ p.lines; sum = n + p.sum }
 
 mutual
-  -- What comes at a position, given the ply of its moves, the intended move if there is one, the table, and how many lines
-  -- still fit: the part that it makes of the solution, and the table after it.
-  pub data Solves (stored : Storing) (b : ℕ) : ℕ → Option ℕ → Tree → Held → ℕ → Part → Held → Type 0 where
-    won : {k : ℕ} {i : Option ℕ} {t : Tree} {held : Held} {room : ℕ} →
-        state t ≡ Won → Solves stored b k i t held room (no_line Done 0) held
-    not_won : {k : ℕ} {i : Option ℕ} {t : Tree} {held : Held} {room : ℕ} →
-        state t ≡ NotWon → Solves stored b k i t held room (no_line Done 0) held
-    stopped : {k : ℕ} {i : Option ℕ} {t : Tree} {held held' : Held} {room n : ℕ} →
-        state t ≡ Attacker → Stops stored b held (moves t) n held' →
-        Solves stored b k i t held room (no_line Spent n) held'
-    no_win : {k : ℕ} {i : Option ℕ} {t : Tree} {held held' : Held} {room n : ℕ} {ws : List Bool} →
-        state t ≡ Attacker → AllTried stored b held (moves t) ws n held' → best i ws ≡ None →
-        Solves stored b k i t held room (no_line Done n) held'
-    full : {k : ℕ} {i : Option ℕ} {t : Tree} {held held' : Held} {room n j : ℕ} {ws : List Bool} →
-        state t ≡ Attacker → AllTried stored b held (moves t) ws n held' → best i ws ≡ Some j →
+  -- What comes at a position, given the ply of its moves, the intended move if there is one, where the table stands, and how many lines
+  -- still fit: the part that it makes of the solution, and where the table then stands.
+  pub data Solves (S : Storing) (b : ℕ) : ℕ → Option ℕ → Tree → S.Standing → ℕ → Part → S.Standing → Type 0 where
+    won : {k : ℕ} {i : Option ℕ} {t : Tree} {standing : S.Standing} {room : ℕ} →
+        state t ≡ Won → Solves S b k i t standing room (no_line Done 0) standing
+    not_won : {k : ℕ} {i : Option ℕ} {t : Tree} {standing : S.Standing} {room : ℕ} →
+        state t ≡ NotWon → Solves S b k i t standing room (no_line Done 0) standing
+    stopped : {k : ℕ} {i : Option ℕ} {t : Tree} {standing standing' : S.Standing} {room n : ℕ} →
+        state t ≡ Attacker → Stops S b standing (moves t) n standing' →
+        Solves S b k i t standing room (no_line Spent n) standing'
+    no_win : {k : ℕ} {i : Option ℕ} {t : Tree} {standing standing' : S.Standing} {room n : ℕ} {ws : List Bool} →
+        state t ≡ Attacker → AllTried S b standing (moves t) ws n standing' → best i ws ≡ None →
+        Solves S b k i t standing room (no_line Done n) standing'
+    full : {k : ℕ} {i : Option ℕ} {t : Tree} {standing standing' : S.Standing} {room n j : ℕ} {ws : List Bool} →
+        state t ≡ Attacker → AllTried S b standing (moves t) ws n standing' → best i ws ≡ Some j →
         room < length (wins k j ws (words t)) →
-        Solves stored b k i t held room (record { ending = Cut; lines = take room (wins k j ws (words t)); sum = n }) held'
-    win : {k : ℕ} {i : Option ℕ} {t : Tree} {held held' held'' : Held} {room n j : ℕ} {ws : List Bool} {p : Part} →
-        state t ≡ Attacker → AllTried stored b held (moves t) ws n held' → best i ws ≡ Some j →
+        Solves S b k i t standing room (record { ending = Cut; lines = take room (wins k j ws (words t)); sum = n }) standing'
+    win : {k : ℕ} {i : Option ℕ} {t : Tree} {standing standing' standing'' : S.Standing} {room n j : ℕ} {ws : List Bool} {p : Part} →
+        state t ≡ Attacker → AllTried S b standing (moves t) ws n standing' → best i ws ≡ Some j →
         length (wins k j ws (words t)) ≤ room →
-        Solves stored b (suc k) None (slice_index_or (next t) j nowhere) held' (room - length (wins k j ws (words t))) p held'' →
-        Solves stored b k i t held room (then (wins k j ws (words t)) n p) held''
-    defends : {k : ℕ} {i : Option ℕ} {t : Tree} {held held' : Held} {room : ℕ} {p : Part} →
-        state t ≡ Defender → Replies stored b k (moves t) held room p held' →
-        Solves stored b k i t held room p held'
+        Solves S b (suc k) None (slice_index_or (next t) j nowhere) standing' (room - length (wins k j ws (words t))) p standing'' →
+        Solves S b k i t standing room (then (wins k j ws (words t)) n p) standing''
+    defends : {k : ℕ} {i : Option ℕ} {t : Tree} {standing standing' : S.Standing} {room : ℕ} {p : Part} →
+        state t ≡ Defender → Replies S b k (moves t) standing room p standing' →
+        Solves S b k i t standing room p standing'
 
   -- What comes at a defender's position: for each move, in order, a line with `.`, followed by what comes after the move.
-  pub data Replies (stored : Storing) (b : ℕ) : ℕ → Moves → Held → ℕ → Part → Held → Type 0 where
-    no_reply : {k : ℕ} {held : Held} {room : ℕ} → Replies stored b k none held room (no_line Done 0) held
-    no_room : {k : ℕ} {x : List ℕ} {t : Tree} {m : Moves} {held : Held} {room : ℕ} →
-        room ≡ 0 → Replies stored b k (move x t m) held room (no_line Cut 0) held
-    last : {k : ℕ} {x : List ℕ} {t : Tree} {m : Moves} {held held' : Held} {room : ℕ} {p : Part} →
-        0 < room → Solves stored b (suc k) None t held (room - 1) p held' → (p.ending ≢ Done) →
-        Replies stored b k (move x t m) held room (then (reply_line k x ∷ []) 0 p) held'
-    reply : {k : ℕ} {x : List ℕ} {t : Tree} {m : Moves} {held held' held'' : Held} {room : ℕ} {p q : Part} →
-        0 < room → Solves stored b (suc k) None t held (room - 1) p held' → p.ending ≡ Done →
-        Replies stored b k m held' (room - suc (length p.lines)) q held'' →
-        Replies stored b k (move x t m) held room (then (reply_line k x ∷ p.lines) p.sum q) held''
+  pub data Replies (S : Storing) (b : ℕ) : ℕ → Moves → S.Standing → ℕ → Part → S.Standing → Type 0 where
+    no_reply : {k : ℕ} {standing : S.Standing} {room : ℕ} → Replies S b k none standing room (no_line Done 0) standing
+    no_room : {k : ℕ} {x : List ℕ} {t : Tree} {m : Moves} {standing : S.Standing} {room : ℕ} →
+        room ≡ 0 → Replies S b k (move x t m) standing room (no_line Cut 0) standing
+    last : {k : ℕ} {x : List ℕ} {t : Tree} {m : Moves} {standing standing' : S.Standing} {room : ℕ} {p : Part} →
+        0 < room → Solves S b (suc k) None t standing (room - 1) p standing' → (p.ending ≢ Done) →
+        Replies S b k (move x t m) standing room (then (reply_line k x ∷ []) 0 p) standing'
+    reply : {k : ℕ} {x : List ℕ} {t : Tree} {m : Moves} {standing standing' standing'' : S.Standing} {room : ℕ} {p q : Part} →
+        0 < room → Solves S b (suc k) None t standing (room - 1) p standing' → p.ending ≡ Done →
+        Replies S b k m standing' (room - suc (length p.lines)) q standing'' →
+        Replies S b k (move x t m) standing room (then (reply_line k x ∷ p.lines) p.sum q) standing''
 
--- A solution of a position with the attacker to move: a budget, the intended move, the table, and how many lines fit. Its plies are
--- numbered from 1.
-abbrev pub Solution : Storing → ℕ → ℕ → Tree → Held → ℕ → Part → Held → Type 0
-Solution stored b i t held room p held' = Solves stored b 1 (Some i) t held room p held'
+-- A solution of a position with the attacker to move: a budget, the intended move, where the table stands, and how many lines fit. Its
+-- plies are numbered from 1.
+abbrev pub Solution : (S : Storing) → ℕ → ℕ → Tree → S.Standing → ℕ → Part → S.Standing → Type 0
+Solution S b i t standing room p standing' = Solves S b 1 (Some i) t standing room p standing'

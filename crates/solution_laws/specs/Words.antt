@@ -1,4 +1,4 @@
--- The words in which an ending is printed.
+-- The value of each ending: the word in which it is printed.
 use Rattle.std.specs.Prelude.{ℕ, List, codes}
 use Rattle.solution_laws.specs.declared.ending.Ending.{Ending}
 use Rattle.solution_laws.specs.declared.ending.Ending.TheVariants.{Done, Spent, Cut}

@@ -1,5 +1,6 @@
-use Rattle.std.proofs.Common.{◌≡◌, ◌++◌, List, length, drop, ap, ◌∙◌}
+use Rattle.std.proofs.Common.{rules, ◌≡◌, ◌++◌, List, length, drop, ap, ◌∙◌}
 use Rattle.std.proofs.lemmas.List.{take-append-drop}
+use Rattle.game.specs.Limits.{records_needed}
 use Rattle.game.specs.Tree.{Tree}
 use Rattle.table.specs.declared.pair.Pair.{Pair}
 use Rattle.search_laws.proofs.Laws.{ranging}
@@ -16,8 +17,8 @@ returns-in_err-accept-clause-answered g c =
     let t : Tree = g.G.Game.current c.args.game.now in
     let rs : List Pair = c.args.records.now in
     let e = accepted t c.args.intended (length rs) (length c.args.buffer.now) c.in_ok-budget.budget c.in_ok-budget.ensures c.in-Some.ensures.cases.enough in
-    let same : c.in-Some.records.now ++ drop 6144 rs ≡ rs = ap (λ (x : List Pair). x ++ drop 6144 rs) c.in-Some.ensures.cases.same ∙ take-append-drop 6144 rs in
-    (refused g.G.Game.positions g.T.Table.stored (g.T.Table.held c.args.table.now) t c.args.intended c.args.budget rs _ c.args.buffer.now c.from_residual-in_err-accept.result c.in_err-accept.field-0.0
+    let same : c.in-Some.records.now ++ drop records_needed rs ≡ rs = ap (λ (x : List Pair). x ++ drop records_needed rs) c.in-Some.ensures.cases.same ∙ take-append-drop records_needed rs in
+    (refused g.G.Game.positions g.T.Table.storing (g.T.Table.standing c.args.table.now) t c.args.intended c.args.budget rs _ c.args.buffer.now c.from_residual-in_err-accept.result c.in_err-accept.field-0.0
     c.from_residual-in_err-accept.ensures.1 (e ∙ c.in_err-accept.ensures) same).0
 
 pub write_solution-requires : goal.write_solution-requires
@@ -28,6 +29,7 @@ returns-clause-answered g c =
     let t : Tree = g.G.Game.current c.args.game.now in
     let e = accepted t c.args.intended (length c.args.records.now) (length c.args.buffer.now) c.in_ok-budget.budget c.in_ok-budget.ensures c.in-Some.ensures.cases.enough in (
       e ∙ c.in_ok-accept.ensures,
+      search rules,
       budgeted c.in_ok-budget.ensures c.write_solution.ensures.solved,
     )
 
@@ -35,11 +37,11 @@ pub returns-clause-right : goal.returns-clause-right
 returns-clause-right g c =
     let m = g.met.G.Game in
     let n = g.met.T.Table in
-    let S = g.T.Table.stored in
+    let S = g.T.Table.storing in
     let t : Tree = g.G.Game.current c.args.game.now in
-    let h = g.T.Table.held c.args.table.now in
-    means g.G.Game.positions S h t c.args.intended c.args.budget c.args.buffer.now c.write_solution.result (g.T.Table.held c.write_solution.new.table) c.write_solution.new.buffer
+    let h = g.T.Table.standing c.args.table.now in
+    means g.G.Game.positions S h t c.args.intended c.args.budget c.args.buffer.now c.write_solution.result (g.T.Table.standing c.write_solution.new.table) c.write_solution.new.buffer
     (solutions_fit m.lawful S)
-    (solutions_are_right_lem m.lawful S (trials_are_right_lem g.G.Game.positions (ranging m.lawful) S (record { own = n.own; other = n.other })))
+    (solutions_are_right_lem m.lawful S (trials_are_right_lem g.G.Game.positions (ranging m.lawful) S n.keeping))
     (spent-is-meant S (trials.spent-is-meant S)) (m.within c.args.game.now)
-    (attacked t c.args.intended 0 6144 (length c.args.buffer.now) c.in_ok-accept.ensures) (budgeted c.in_ok-budget.ensures c.write_solution.ensures.solved)
+    (attacked t c.args.intended 0 records_needed (length c.args.buffer.now) c.in_ok-accept.ensures) (budgeted c.in_ok-budget.ensures c.write_solution.ensures.solved)

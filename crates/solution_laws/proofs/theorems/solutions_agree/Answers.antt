@@ -6,6 +6,6 @@ use Rattle.solution_laws.proofs.theorems.solutions_agree.Goals as goal
 
 pub returns : goal.returns
 returns g c = record {
-  one = solutions_agree_lem g.T.Table.stored (trials_agree_lem g.T.Table.stored);
-  some = solutions_end g.T.Table.stored (trials_end_lem g.T.Table.stored);
+  one = solutions_agree_lem g.T.Table.storing (trials_agree_lem g.T.Table.storing);
+  some = solutions_end g.T.Table.storing (trials_end_lem g.T.Table.storing);
 }

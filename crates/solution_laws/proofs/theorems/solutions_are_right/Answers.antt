@@ -5,5 +5,5 @@ use Rattle.solution_laws.proofs.theorems.solutions_are_right.Goals as goal
 
 pub returns : goal.returns
 returns g c =
-    solutions_are_right_lem g.met.G.Game.lawful g.T.Table.stored
-    (trials_are_right_lem g.G.Game.positions (ranging g.met.G.Game.lawful) g.T.Table.stored (record { own = g.met.T.Table.own; other = g.met.T.Table.other }))
+    solutions_are_right_lem g.met.G.Game.lawful g.T.Table.storing
+    (trials_are_right_lem g.G.Game.positions (ranging g.met.G.Game.lawful) g.T.Table.storing g.met.T.Table.keeping)

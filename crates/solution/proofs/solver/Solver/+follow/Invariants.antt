@@ -20,6 +20,6 @@ decreases-follow_move g l = 3 * rank (g.G.Game.current l.self.now.game.now)
 abbrev pub invariant-follow_replies-loop-i : goal.invariant-follow_replies-loop-i
 invariant-follow_replies-loop-i g l = record {
   stays : Stays g.G.Game.current g.G.Game.earlier l.initial.self l.self;
-  replying : Replying g.T.Table.stored l.initial.self.budget.amount l.ply.number (g.G.Game.current l.initial.self.game.now) (g.T.Table.held l.initial.self.table.now) l.initial.page l.initial.self.sum
-      l.i (g.T.Table.held l.self.table.now) l.page l.self.sum;
+  replying : Replying g.T.Table.storing l.initial.self.budget.amount l.ply.number (g.G.Game.current l.initial.self.game.now) (g.T.Table.standing l.initial.self.table.now) l.initial.page l.initial.self.sum
+      l.i (g.T.Table.standing l.self.table.now) l.page l.self.sum;
 }

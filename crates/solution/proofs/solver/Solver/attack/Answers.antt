@@ -11,7 +11,7 @@ use Rattle.solution.proofs.solver.Solver.attack.Goals as goal
 pub returns-in_err-try_moves-clause-attacks : goal.returns-in_err-try_moves-clause-attacks
 returns-in_err-try_moves-clause-attacks g c =
     let s = c.args.self.now in let s' = c.try_moves.new.self in
-    spent_attacks g.T.Table.stored s.budget.amount c.args.ply.number c.args.intended (g.G.Game.current s.game.now) (g.T.Table.held s.table.now) c.args.page.now s.sum (g.T.Table.held s'.table.now) s'.sum c.requires.attacker
+    spent_attacks g.T.Table.storing s.budget.amount c.args.ply.number c.args.intended (g.G.Game.current s.game.now) (g.T.Table.standing s.table.now) c.args.page.now s.sum (g.T.Table.standing s'.table.now) s'.sum c.requires.attacker
     c.from_residual.result c.in_err-try_moves.field-0.0 c.from_residual.ensures.1 c.in_err-try_moves.ensures.tried
 
 pub returns-in_default-clause-attacks : goal.returns-in_default-clause-attacks
@@ -19,7 +19,7 @@ returns-in_default-clause-attacks g c =
     let s = c.args.self.now in let s' = c.try_moves.new.self in
     let t : Tree = g.G.Game.current s.game.now in
     let a = same_flags c.as_slice-won.ensures.value c.in_ok-try_moves.ensures.tried in
-    no_win_attacks g.T.Table.stored s.budget.amount c.args.ply.number c.args.intended t (g.T.Table.held s.table.now) c.args.page.now s.sum (g.T.Table.held s'.table.now) s'.sum c.requires.attacker
+    no_win_attacks g.T.Table.storing s.budget.amount c.args.ply.number c.args.intended t (g.T.Table.standing s.table.now) c.args.page.now s.sum (g.T.Table.standing s'.table.now) s'.sum c.requires.attacker
     c.as_slice-won.result.now a (sym c.best_move.ensures ∙ c.in_default.is)
 
 pub write_wins-requires-clause-number : goal.write_wins-requires-clause-number
@@ -47,7 +47,7 @@ returns-in_err-write_wins-clause-attacks g c =
     let k = c.args.ply.number in let j = c.in-Some.chosen in let e = c.in_err-write_wins.field-0.0 in
     let a = same_flags c.as_slice-won.ensures.value c.in_ok-try_moves.ensures.tried in
     let w = subst (λ (x : Tree). Writes (wins k j ws (words x)) c.args.page.now (Err e) c.write_wins.new.self) c.try_moves.ensures.stays.at c.in_err-write_wins.ensures in
-    cut_attacks g.T.Table.stored s.budget.amount k c.args.intended t (g.T.Table.held s.table.now) c.args.page.now s.sum (g.T.Table.held s'.table.now) s'.sum c.requires.attacker
+    cut_attacks g.T.Table.storing s.budget.amount k c.args.intended t (g.T.Table.standing s.table.now) c.args.page.now s.sum (g.T.Table.standing s'.table.now) s'.sum c.requires.attacker
     c.from_residual-in_err-write_wins.result e j ws c.write_wins.new.self c.from_residual-in_err-write_wins.ensures.1 a (sym c.best_move.ensures ∙ c.in-Some.is) w
 
 pub returns-clause-attacks : goal.returns-clause-attacks

@@ -8,6 +8,6 @@ returns-clause-solved g c =
     let m = g.met.G.Game in
     let s = c.args.self.now in let s' = c.follow-end.new.self in
     let t : Tree = g.G.Game.current s.game.now in
-    shown g.G.Game.positions g.T.Table.stored s.budget.amount c.args.intended t (g.T.Table.held s.table.now) c.args.page.now c.follow-end.result
-    (g.T.Table.held s'.table.now) c.follow-end.new.page s.sum s'.sum c.ending_of.result
-    (solutions_fit m.lawful g.T.Table.stored) (m.within s.game.now) c.requires.page.0 c.requires.page.1 c.requires.page.2 c.requires.sum c.ending_of.ensures c.follow-end.ensures.follows
+    shown g.G.Game.positions g.T.Table.storing s.budget.amount c.args.intended t (g.T.Table.standing s.table.now) c.args.page.now c.follow-end.result
+    (g.T.Table.standing s'.table.now) c.follow-end.new.page s.sum s'.sum c.ending_of.result
+    (solutions_fit m.lawful g.T.Table.storing) (m.within s.game.now) c.requires.page.0 c.requires.page.1 c.requires.page.2 c.requires.sum c.ending_of.ensures c.follow-end.ensures.follows

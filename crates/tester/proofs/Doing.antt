@@ -1,13 +1,12 @@
 -- What the game, the search and the solution say of their calls is what the rules say.
-use Rattle.std.proofs.Common.{◌≡◌, ℕ, List, [], None, Ok, Err, Result, sym, refl, subst, MatchResult}
-use mathlib.Core.Path.{fun_ext}
+use Rattle.std.proofs.Common.{◌≡◌, ℕ, List, [], Ok, Err, Result, sym, refl, ◌∙◌, subst, MatchResult}
 use Rattle.game.specs.Tree.{position, refused}
 use Rattle.game.specs.declared.decline.Decline.{Decline}
+use Rattle.game.specs.Declines.{number}
 use Rattle.game.specs.declared.decline.SetDecline.{SetDecline}
 use Rattle.game.specs.declared.game.Game as game
 use Rattle.table.specs.declared.Table as table
 use Rattle.table.specs.declared.pair.Pair.{Pair}
-use Rattle.table.specs.Pairs.{Code, nothing}
 use Rattle.search_laws.specs.declared.answer.Answer.{Answer}
 use Rattle.search_laws.specs.Calls.{Tried}
 use Rattle.search.proofs.Moves.{PlaySays, BackSays}
@@ -15,78 +14,77 @@ use Rattle.solution.specs.declared.answer.Solution.{Solution}
 use Rattle.solution.specs.Calls.{Answered}
 use Rattle.tester.specs.declared.reply.Reply.{Reply}
 use Rattle.tester.specs.declared.reply.Reply.TheVariants.{Done, Declined}
-use Rattle.tester.specs.Calls.{Stand, Asked, set, play, take_back, trial, solution, clear, Lent, Does, sets, not_set, plays, not_played, takes_back, not_taken_back, tries, not_tried, solves, not_solved, clears}
+use Rattle.tester.specs.Calls.{Stand, at, Asked, set, play, take_back, trial, solution, clear, Lent, no_loan, Does, sets, not_set, plays, not_played, takes_back, not_taken_back, tries, not_tried, solves, not_solved, clears}
 use Rattle.tester.specs.Replies.{set_reply, move_reply, trial_reply, solution_reply}
 
-module _ {G T : Type 0} (g : game.Ghosts G) (h : table.Ghosts T) (s s' : Stand) where
-  -- another name for where the call leaves the tester, and for what the things lent hold
-  moved : {c : Asked} {l l' : Lent} {r : Reply} (t : Stand) → t.current ≡ s'.current → t.earlier ≡ s'.earlier → t.held ≡ s'.held → Does g h s c l r l' t → Does g h s c l r l' s'
-  moved {c = c} {l = l} {l' = l'} {r = r} t p q e d =
-      let f : t ≡ s' = λ i. record { current = p i; earlier = q i; held = e i } in subst (λ (u : Stand). Does g h s c l r l' u) f d
+module _ {G T : Type 0} (g : game.Ghosts G) (h : table.Ghosts T) where
+  -- another name for where the call leaves the tester
+  moved : {s t s' : Stand h} {c : Asked} {l l' : Lent} {r : Reply} → t.current ≡ s'.current → t.earlier ≡ s'.earlier → t.standing ≡ s'.standing → Does g h s c l r l' t → Does g h s c l r l' s'
+  moved {s = s} {t = t} {s' = s'} {c = c} {l = l} {l' = l'} {r = r} p q e d =
+      let f : t ≡ s' = λ i. record { current = p i; earlier = q i; standing = e i } in subst (λ (u : Stand h). Does g h s c l r l' u) f d
 
-  pub set_does : (x : List ℕ) (aim : ℕ) (l : Lent) (r : Result (Unit {0}) SetDecline) → s'.held ≡ s.held
-      → MatchResult r (λ _. (g.reading x aim ≡ position s'.current) × (s'.earlier ≡ []))
-      (λ e. (g.reading x aim ≡ refused e.cause e.place) × (s'.current ≡ s.current) × (s'.earlier ≡ s.earlier))
-      → Does g h s (set x aim) l (set_reply r) l s'
-  set_does x aim l (Ok u) e k = moved (record { current = s'.current; earlier = []; held = s.held }) refl (sym k.1) (sym e) (sets k.0)
-  set_does x aim l (Err d) e k = moved s (sym k.1) (sym k.2) (sym e) (not_set k.0)
+  -- the calls that keep the table
+  module _ (x x' : G) (y : T) where
+    pub set_does : (text : List ℕ) (aim : ℕ) (r : Result (Unit {0}) SetDecline)
+        → MatchResult r (λ _. (g.reading text aim ≡ position (g.current x')) × (g.earlier x' ≡ []))
+        (λ e. (g.reading text aim ≡ refused (number e.cause) e.place) × (g.current x' ≡ g.current x) × (g.earlier x' ≡ g.earlier x))
+        → Does g h (at g h x y) (set text aim) no_loan (set_reply r) no_loan (at g h x' y)
+    set_does text aim (Ok u) k = moved refl (sym k.1) refl (sets k.0)
+    set_does text aim (Err d) k = moved (sym k.1) (sym k.2) refl (not_set k.0)
 
-  pub play_does : (i : ℕ) (l : Lent) (r : Result (Unit {0}) Decline) → s'.held ≡ s.held → PlaySays i s.current s.earlier s'.current s'.earlier r
-      → Does g h s (play i) l (move_reply r) l s'
-  play_does i l (Ok u) e k = moved _ (sym k.1) (sym k.2) (sym e) (plays k.0)
-  play_does i l (Err d) e k =
-      subst (λ (x : Decline). Does g h s (play i) l (Declined x) l s') (sym k.3) (moved s (sym k.1) (sym k.2) (sym e) (not_played k.0))
+    pub play_does : (i : ℕ) (r : Result (Unit {0}) Decline) → PlaySays i (g.current x) (g.earlier x) (g.current x') (g.earlier x') r
+        → Does g h (at g h x y) (play i) no_loan (move_reply r) no_loan (at g h x' y)
+    play_does i (Ok u) k = moved (sym k.1) (sym k.2) refl (plays k.0)
+    play_does i (Err d) k = moved (sym k.1) (sym k.2) refl (not_played k.3 k.0)
 
-  pub back_does : (l : Lent) (r : Result (Unit {0}) Decline) → s'.held ≡ s.held → BackSays s.current s.earlier s'.current s'.earlier r
-      → Does g h s take_back l (move_reply r) l s'
-  back_does l (Ok u) e k = moved (record { current = s'.current; earlier = s'.earlier; held = s.held }) refl refl (sym e) (takes_back k)
-  back_does l (Err d) e k =
-      let z = k.0 in
-      let y = k.2 in
-      subst (λ (x : Decline). Does g h s take_back l (Declined x) l s') (sym k.3) (moved s (sym k.1) (cc) (sym e) (not_taken_back z))
+    pub back_does : (r : Result (Unit {0}) Decline) → BackSays (g.current x) (g.earlier x) (g.current x') (g.earlier x') r
+        → Does g h (at g h x y) take_back no_loan (move_reply r) no_loan (at g h x' y)
+    back_does (Ok u) k = takes_back k
+    back_does (Err d) k = moved (sym k.1) (k.0 ∙ sym k.2) refl (not_taken_back k.3 k.0)
 
-  pub clear_does : (l : Lent) → s'.current ≡ s.current → s'.earlier ≡ s.earlier → ((c : Code) → s'.held c ≡ None) → Does g h s clear l Done l s'
-  clear_does l p q e = moved (record { current = s.current; earlier = s.earlier; held = nothing }) (sym p) (sym q) (sym (fun_ext e)) clears
+  pub clear_does : (x : G) (y y' : T) → h.standing y' ≡ h.storing.cleared (h.standing y) → Does g h (at g h x y) clear no_loan Done no_loan (at g h x y')
+  clear_does x y y' e = moved refl refl (sym e) clears
 
-  pub trial_does : (b : ℕ) (rs rs' : List Pair) (buffer : List ℕ) (r : Result Answer Decline) → s'.current ≡ s.current → s'.earlier ≡ s.earlier
-      → Tried h.stored s.held s.current b rs r s'.held rs'
-      → Does g h s (trial b) (record { records = rs; buffer = buffer }) (trial_reply r) (record { records = rs'; buffer = buffer }) s'
-  trial_does b rs rs' buffer (Ok a) p q k = moved (record { current = s.current; earlier = s.earlier; held = s'.held }) (sym p) (sym q) refl (tries k.0 k.1)
-  trial_does b rs rs' buffer (Err d) p q k =
-      subst (λ (x : List Pair). Does g h s (trial b) (record { records = rs; buffer = buffer }) (Declined d) (record { records = x; buffer = buffer }) s') (sym k.2)
-      (moved s (sym p) (sym q) (sym k.1) (not_tried k.0))
+  -- the calls that keep the path
+  module _ (x x' : G) (y y' : T) (at_it : g.current x' ≡ g.current x) (path : g.earlier x' ≡ g.earlier x) where
+    pub trial_does : (b : ℕ) (rs rs' : List Pair) (buffer : List ℕ) (r : Result Answer Decline) → Tried h.storing (h.standing y) (g.current x) b rs r (h.standing y') rs'
+        → Does g h (at g h x y) (trial b) (record { records = rs; buffer = buffer }) (trial_reply r) (record { records = rs'; buffer = buffer }) (at g h x' y')
+    trial_does b rs rs' buffer (Ok a) k = moved (sym at_it) (sym path) refl (tries k.1 k.0 k.2)
+    trial_does b rs rs' buffer (Err d) k =
+        subst (λ (z : List Pair). Does g h (at g h x y) (trial b) (record { records = rs; buffer = buffer }) (Declined d) (record { records = z; buffer = buffer }) (at g h x' y')) (sym k.2)
+        (moved (sym at_it) (sym path) (sym k.1) (not_tried k.0))
 
-  pub solution_does : (i b : ℕ) (rs rs' : List Pair) (buffer buffer' : List ℕ) (r : Result Solution Decline) → s'.current ≡ s.current → s'.earlier ≡ s.earlier
-      → Answered h.stored s.held s.current i b rs buffer r s'.held rs' buffer'
-      → Does g h s (solution i b) (record { records = rs; buffer = buffer }) (solution_reply r) (record { records = rs'; buffer = buffer' }) s'
-  solution_does i b rs rs' buffer buffer' (Ok a) p q k = moved (record { current = s.current; earlier = s.earlier; held = s'.held }) (sym p) (sym q) refl (solves k.0 k.1)
-  solution_does i b rs rs' buffer buffer' (Err d) p q k =
-      subst (λ (x : List Pair). Does g h s (solution i b) (record { records = rs; buffer = buffer }) (Declined d) (record { records = x; buffer = buffer' }) s') (sym k.2)
-      (subst (λ (x : List ℕ). Does g h s (solution i b) (record { records = rs; buffer = buffer }) (Declined d) (record { records = rs; buffer = x }) s') (sym k.3)
-      (moved s (sym p) (sym q) (sym k.1) (not_solved k.0)))
+    pub solution_does : (i b : ℕ) (rs rs' : List Pair) (buffer buffer' : List ℕ) (r : Result Solution Decline)
+        → Answered h.storing (h.standing y) (g.current x) i b rs buffer r (h.standing y') rs' buffer'
+        → Does g h (at g h x y) (solution i b) (record { records = rs; buffer = buffer }) (solution_reply r) (record { records = rs'; buffer = buffer' }) (at g h x' y')
+    solution_does i b rs rs' buffer buffer' (Ok a) k = moved (sym at_it) (sym path) refl (solves k.1 k.0 k.2)
+    solution_does i b rs rs' buffer buffer' (Err d) k =
+        let e : ◌≡◌ {A = Lent} (record { records = rs; buffer = buffer }) (record { records = rs'; buffer = buffer' }) = λ j. record { records = sym k.2 j; buffer = sym k.3 j } in
+        subst (λ (l : Lent). Does g h (at g h x y) (solution i b) (record { records = rs; buffer = buffer }) (Declined d) l (at g h x' y')) e
+        (moved (sym at_it) (sym path) (sym k.1) (not_solved k.0))
 
 -- a call goes the same way whatever else it is lent
-module _ {G T : Type 0} {g : game.Ghosts G} {h : table.Ghosts T} {s : Stand} where
-  pub set_lent : {x : List ℕ} {aim : ℕ} {k k' : Lent} {r : Reply} {s' : Stand} (l : Lent) → Does g h s (set x aim) k r k' s' → Does g h s (set x aim) l r l s'
+module _ {G T : Type 0} {g : game.Ghosts G} {h : table.Ghosts T} {s : Stand h} where
+  pub set_lent : {x : List ℕ} {aim : ℕ} {k k' : Lent} {r : Reply} {s' : Stand h} (l : Lent) → Does g h s (set x aim) k r k' s' → Does g h s (set x aim) l r l s'
   set_lent l (sets e) = sets e
   set_lent l (not_set e) = not_set e
 
-  pub play_lent : {i : ℕ} {k k' : Lent} {r : Reply} {s' : Stand} (l : Lent) → Does g h s (play i) k r k' s' → Does g h s (play i) l r l s'
+  pub play_lent : {i : ℕ} {k k' : Lent} {r : Reply} {s' : Stand h} (l : Lent) → Does g h s (play i) k r k' s' → Does g h s (play i) l r l s'
   play_lent l (plays e) = plays e
-  play_lent l (not_played e) = not_played e
+  play_lent l (not_played n e) = not_played n e
 
-  pub back_lent : {k k' : Lent} {r : Reply} {s' : Stand} (l : Lent) → Does g h s take_back k r k' s' → Does g h s take_back l r l s'
+  pub back_lent : {k k' : Lent} {r : Reply} {s' : Stand h} (l : Lent) → Does g h s take_back k r k' s' → Does g h s take_back l r l s'
   back_lent l (takes_back e) = takes_back e
-  back_lent l (not_taken_back e) = not_taken_back e
+  back_lent l (not_taken_back n e) = not_taken_back n e
 
-  pub clear_lent : {k k' : Lent} {r : Reply} {s' : Stand} (l : Lent) → Does g h s clear k r k' s' → Does g h s clear l r l s'
+  pub clear_lent : {k k' : Lent} {r : Reply} {s' : Stand h} (l : Lent) → Does g h s clear k r k' s' → Does g h s clear l r l s'
   clear_lent l clears = clears
 
-  pub trial_lent : {b : ℕ} {k k' : Lent} {r : Reply} {s' : Stand} (buffer : List ℕ) → Does g h s (trial b) k r k' s'
+  pub trial_lent : {b : ℕ} {k k' : Lent} {r : Reply} {s' : Stand h} (buffer : List ℕ) → Does g h s (trial b) k r k' s'
       → Does g h s (trial b) (record { records = k.records; buffer = buffer }) r (record { records = k'.records; buffer = buffer }) s'
-  trial_lent buffer (tries d t) = tries d t
+  trial_lent buffer (tries n d t) = tries n d t
   trial_lent buffer (not_tried e) = not_tried e
 
 -- the same call and reply by another name
-pub renamed : {G T : Type 0} {g : game.Ghosts G} {h : table.Ghosts T} {s s' : Stand} {l l' : Lent} {c c' : Asked} {r r' : Reply} → c ≡ c' → r ≡ r' → Does g h s c' l r' l' s' → Does g h s c l r l' s'
+pub renamed : {G T : Type 0} {g : game.Ghosts G} {h : table.Ghosts T} {s s' : Stand h} {l l' : Lent} {c c' : Asked} {r r' : Reply} → c ≡ c' → r ≡ r' → Does g h s c' l r' l' s' → Does g h s c l r l' s'
 renamed {g = g} {h = h} {s = s} {s' = s'} {l = l} {l' = l'} p q d = subst (λ (x : Type 0). x) (λ i. Does g h s (sym p i) l (sym q i) l' s') d

@@ -1,4 +1,8 @@
+pub mod Words
 pub mod Lists
 pub mod Single
 pub mod Doing
+pub mod Outright
 pub mod Performing
+pub mod History
+pub mod Rounding

@@ -1,16 +1,17 @@
--- Each call from a good stand is right and leaves a good stand; so in every list.
-use Rattle.std.proofs.Common.{◌≡◌, ℕ, ◌≤◌, List, [], length, None, refl, subst}
+-- Lists of calls, one after another. Each call from a good stand is right and leaves a good stand; so in every list.
+use Rattle.std.proofs.Common.{◌≡◌, ℕ, ◌≤◌, List, ◌++◌, length, None, refl, subst}
 use Rattle.std.proofs.ByRecursion.{All-get_or}
 use Rattle.game.specs.Rules.{Rules}
-use Rattle.game.specs.Tree.{Tree, nowhere, next}
+use Rattle.std.specs.Prelude.{codes, ◌≢◌}
+use Rattle.game.specs.Tree.{Tree, code, nowhere, next}
 use Rattle.game.specs.declared.game.Game as game
 use Rattle.table.specs.declared.Table as table
-use Rattle.table.specs.Pairs.{Held, nothing}
-use Rattle.search_laws.specs.declared.answer.Verdict.TheVariants.{Spent}
 use Rattle.search_laws.specs.declared.answer.Answer.{Answer}
 use Rattle.search_laws.specs.Trial.{Trial}
 use Rattle.search_laws.specs.Calls.{trial_decline}
-use Rattle.search_laws.specs.Claims.{Sound, Keeping, TrialsAreRight, VerdictsLast, SpentIsMeant, TrialsEnd}
+use Rattle.search_laws.specs.Words.{word}
+use Rattle.table.specs.Storings.{Keeping}
+use Rattle.search_laws.specs.Claims.{Sound, TrialsAreRight, VerdictsLast, SpentIsMeant, TrialsEnd}
 use Rattle.search_laws.proofs.Laws.{ranging}
 use Rattle.search_laws.proofs.Trials as trials
 use Rattle.search_laws.proofs.Trials.{trials_are_right_lem}
@@ -27,64 +28,73 @@ use Rattle.solution.proofs.Shown.{attacked, means}
 use Rattle.tester.specs.declared.reply.Reply.{Reply}
 use Rattle.tester.specs.declared.reply.Reply.TheVariants.{Tried, Solved}
 use Rattle.tester.specs.Calls.{Stand, made, Asked, trial, Lent, Does, sets, not_set, plays, not_played, takes_back, not_taken_back, tries, not_tried, solves, not_solved, clears, Event, Calls, none, then}
-use Rattle.tester.specs.Claims.{TrialRight, SolutionRight, Right, RightAfter, Linked, Good, Each, EveryListStands}
+use Rattle.tester.specs.Claims.{TrialRight, SolutionRight, Right, Linked, Good, Each, EveryListStands}
+
+-- a list goes on with another
+abbrev pub joined : {G T : Type 0} {g : game.Ghosts G} {h : table.Ghosts T} {s s' s'' : Stand h} {es fs : List Event}
+    → Calls g h s es s' → Calls g h s' fs s'' → Calls g h s (es ++ fs) s''
+joined none r = r
+joined (then d q) r = then d (joined q r)
 
 -- what holds of a game's and a table's trials and solutions
 pub record Theorems {G T : Type 0} (g : game.Ghosts G) (h : table.Ghosts T) : Type 0 where
   pub rules : Rules g.start g.positions g.depth g.width g.reading
-  pub right : TrialsAreRight g.positions h.stored
-  pub last : VerdictsLast g.positions h.stored
-  pub meant : SpentIsMeant h.stored
-  pub ends : TrialsEnd h.stored
-  pub solved : SolutionsAreRight g.positions h.stored
-  pub fit : SolutionsFit g.positions h.stored
-  pub solution_meant : claims.SpentIsMeant h.stored
+  pub keeping : Keeping h.storing
+  pub right : TrialsAreRight g.positions h.storing
+  pub last : VerdictsLast g.positions h.storing
+  pub meant : SpentIsMeant h.storing
+  pub ends : TrialsEnd h.storing
+  pub solved : SolutionsAreRight g.positions h.storing
+  pub fit : SolutionsFit g.positions h.storing
+  pub solution_meant : claims.SpentIsMeant h.storing
 
-pub theorems : {G T : Type 0} (g : game.Ghosts G) (h : table.Ghosts T) → Rules g.start g.positions g.depth g.width g.reading → Keeping h.stored → Theorems g h
+pub theorems : {G T : Type 0} (g : game.Ghosts G) (h : table.Ghosts T) → Rules g.start g.positions g.depth g.width g.reading → Keeping h.storing → Theorems g h
 theorems g h rules keeping =
-    let right = trials_are_right_lem g.positions (ranging rules) h.stored keeping in
+    let right = trials_are_right_lem g.positions (ranging rules) h.storing keeping in
     record {
       rules = rules;
+      keeping = keeping;
       right = right;
-      last = verdicts_last_lem g.positions (ranging rules) h.stored keeping;
-      meant = trials.spent-is-meant h.stored;
-      ends = trials_end_lem h.stored;
-      solved = solutions_are_right_lem rules h.stored right;
-      fit = solutions_fit rules h.stored;
-      solution_meant = spent-is-meant h.stored (trials.spent-is-meant h.stored);
+      last = verdicts_last_lem g.positions (ranging rules) h.storing keeping;
+      meant = trials.spent-is-meant h.storing;
+      ends = trials_end_lem h.storing;
+      solved = solutions_are_right_lem rules h.storing right;
+      fit = solutions_fit rules h.storing;
+      solution_meant = spent-is-meant h.storing (trials.spent-is-meant h.storing);
     }
 
 -- a call that is no trial and no solution, or that is declined
-plain : {G T : Type 0} (g : game.Ghosts G) (h : table.Ghosts T) (s : Stand) (c : Asked) (r : Reply) (l : Lent)
+plain : {G T : Type 0} (g : game.Ghosts G) (h : table.Ghosts T) (s : Stand h) (c : Asked) (r : Reply) (l : Lent)
     → ((a : Answer) → r ≡ Tried a → ⊥) → ((a : Solution) → r ≡ Solved a → ⊥) → Right g h s c r l
 plain g h s c r l p q = record { of_trial = λ b a e f. absurd (p a f); of_solution = λ i b a e f. absurd (q a f) }
 
-empty : (positions : Tree → Type 0) → Sound positions nothing
-empty positions t pt p e = clash (cc)
-
 module _ {G T : Type 0} (g : game.Ghosts G) (h : table.Ghosts T) (th : Theorems g h) where
-  -- a trial that is not declined gives what a trial from the same table gives
-  tried_again : (s : Stand) (b b' : ℕ) (a : Answer) (held' : Held) (l : Lent) → Good g.positions s → Trial h.stored s.held s.current b a held' → (a.verdict ≡ Spent → ⊥) → b ≤ b'
-      → trial_decline b' (length l.records) ≡ None → (r : Reply) (l' : Lent) (s' : Stand) → Does g h s (trial b') l r l' s'
-      → (a' : Answer) × (r ≡ Tried a') × (a'.verdict ≡ a.verdict)
-  tried_again s b b' a held' l k t n o e r l' s' (tries {a = a'} {held' = held''} d t') =
-      (a', refl, th.last s.held s.current b b' a a' held' held'' k.sound k.here o t t' n)
-  tried_again s b b' a held' l k t n o e r l' s' (not_tried d) = clash (cc)
+  -- a table that was cleared shows nothing, so nothing false
+  empty : (x : h.storing.Standing) → Sound g.positions (h.storing.shows (h.storing.cleared x))
+  empty x t pt p e = let n = th.keeping.empties x (code t) in clash (cc)
 
-  trial_right : (s : Stand) (b : ℕ) (a : Answer) (held' : Held) → Good g.positions s → Trial h.stored s.held s.current b a held' → TrialRight g h s b a
-  trial_right s b a held' k t =
-      let f = th.right s.held s.current b a held' k.sound k.here t in
+  -- a trial from the same stand with a larger budget, if it is not declined, has the same verdict
+  tried_again : (s : Stand h) (b b' : ℕ) (a : Answer) (standing' : h.storing.Standing) (l : Lent) → Good g.positions s → Trial h.storing s.standing s.current b a standing' → (word a.verdict ≢ codes "spent") → b ≤ b'
+      → trial_decline b' (length l.records) ≡ None → (r : Reply) (l' : Lent) (s' : Stand h) → Does g h s (trial b') l r l' s'
+      → (a' : Answer) × (r ≡ Tried a') × (a'.verdict ≡ a.verdict)
+  tried_again s b b' a standing' l k t n o e r l' s' (tries {a = a'} {standing' = standing''} m d t') =
+      (a', refl, th.last s.standing s.current b b' a a' standing' standing'' k.sound k.here o t t' n)
+  tried_again s b b' a standing' l k t n o e r l' s' (not_tried d) = clash (cc)
+
+  trial_right : (s : Stand h) (b : ℕ) (a : Answer) (standing' : h.storing.Standing) → Good g.positions s → Trial h.storing s.standing s.current b a standing' → TrialRight g h s b a
+  trial_right s b a standing' k t =
+      let f = th.right s.standing s.current b a standing' k.sound k.here t in
       record {
         won = f.1;
         not_won = f.2;
         lasts = λ n b' l o e.
-            let z = th.ends s.held s.current b' in
-            ((Tried z.0, record { records = []; buffer = l.buffer }, _, tries e z.1.1), tried_again s b b' a held' l k t n o e);
-        spent = λ e. th.meant s.held s.current b a held' t e;
+            let z = th.ends s.standing s.current b' in
+            ((Tried z.0, l, _, tries refl e z.1.1), tried_again s b b' a standing' l k t n o e);
+        spent = th.meant s.standing s.current b a standing' t;
       }
 
   -- each rule: from a good stand the call is right, and leaves a good one
-  pub keeps : {s s' : Stand} {c : Asked} {l l' : Lent} {r : Reply} → Does g h s c l r l' s' → Good g.positions s → Right g h s c r l' × Good g.positions s'
+  pub keeps : {s s' : Stand h} {c : Asked} {l l' : Lent} {r : Reply} → Does g h s c l r l' s' → Good g.positions s → Right g h s c r l' × Good g.positions s'
   keeps {s = s} (sets {x = x} {aim = aim} {t = t} e) k = (
     plain g h _ _ _ _ (λ a f. clash (cc)) (λ a f. clash (cc)),
     record { here = th.rules.reads x aim t e; linked = tt; sound = k.sound },
@@ -98,24 +108,24 @@ module _ {G T : Type 0} (g : game.Ghosts G) (h : table.Ghosts T) (th : Theorems 
       sound = k.sound;
     },
   )
-  keeps (not_played e) k = (plain g h _ _ _ _ (λ a f. clash (cc)) (λ a f. clash (cc)), k)
+  keeps (not_played n e) k = (plain g h _ _ _ _ (λ a f. clash (cc)) (λ a f. clash (cc)), k)
   keeps {s = s} (takes_back e) k =
       let z = subst (λ (us : List Tree). Linked g.positions s.current us) e k.linked in
       (plain g h _ _ _ _ (λ a f. clash (cc)) (λ a f. clash (cc)), record { here = z.0; linked = z.2; sound = k.sound })
-  keeps (not_taken_back e) k = (plain g h _ _ _ _ (λ a f. clash (cc)) (λ a f. clash (cc)), k)
-  keeps {s = s} (tries {b = b} {a = a} {held' = held'} d t) k = (
+  keeps (not_taken_back n e) k = (plain g h _ _ _ _ (λ a f. clash (cc)) (λ a f. clash (cc)), k)
+  keeps {s = s} (tries {b = b} {a = a} {standing' = standing'} n d t) k = (
     record {
       of_trial = λ b' a' e f.
           let p : b ≡ b' = cc in
           let q : a ≡ a' = cc in
-          subst (λ (x : ℕ). TrialRight g h s x a') p (subst (λ (x : Answer). TrialRight g h s b x) q (trial_right s b a held' k t));
+          subst (λ (x : ℕ). TrialRight g h s x a') p (subst (λ (x : Answer). TrialRight g h s b x) q (trial_right s b a standing' k t));
       of_solution = λ i b' a' e f. clash (cc);
     },
-    record { here = k.here; linked = k.linked; sound = (th.right s.held s.current b a held' k.sound k.here t).0 },
+    record { here = k.here; linked = k.linked; sound = (th.right s.standing s.current b a standing' k.sound k.here t).0 },
   )
   keeps (not_tried d) k = (plain g h _ _ _ _ (λ a f. clash (cc)) (λ a f. clash (cc)), k)
-  keeps {s = s} (solves {i = i} {b = b} {l = l} {a = a} {held' = held'} {buffer' = buffer'} d v) k =
-      let m = means g.positions h.stored s.held s.current i b l.buffer a held' buffer' th.fit th.solved th.solution_meant k.here
+  keeps {s = s} (solves {i = i} {b = b} {l = l} {a = a} {standing' = standing'} {buffer' = buffer'} n d v) k =
+      let m = means g.positions h.storing s.standing s.current i b l.buffer a standing' buffer' th.fit th.solved th.solution_meant k.here
       (attacked s.current i b (length l.records) (length l.buffer) d) v in (
         record {
           of_trial = λ b' a' e f. clash (cc);
@@ -123,31 +133,31 @@ module _ {G T : Type 0} (g : game.Ghosts G) (h : table.Ghosts T) (th : Theorems 
               let p : b ≡ b' = cc in
               let q : a ≡ a' = cc in
               subst (λ (x : ℕ). SolutionRight s.current x a' buffer') p (subst (λ (x : Solution). SolutionRight s.current b x buffer') q
-              (record { attacks_win = m.attacks_win k.sound; keys_have_lines = m.keys_have_lines k.sound; spent = m.spent; keys = m.keys; duals = m.duals }));
+              (record { lines = m.lines; read = m.read; attacks_win = m.attacks_win k.sound; keys_have_lines = m.keys_have_lines k.sound; spent = m.spent; keys = m.keys; duals = m.duals }));
         },
         record { here = k.here; linked = k.linked; sound = m.sound k.sound },
       )
   keeps (not_solved d) k = (plain g h _ _ _ _ (λ a f. clash (cc)) (λ a f. clash (cc)), k)
   keeps clears k = (
     plain g h _ _ _ _ (λ a f. clash (cc)) (λ a f. clash (cc)),
-    record { here = k.here; linked = k.linked; sound = empty g.positions },
+    record { here = k.here; linked = k.linked; sound = empty _ },
   )
 
-  begins : Good g.positions (made g)
-  begins = record { here = th.rules.begun; linked = tt; sound = empty g.positions }
+  begins : (taken : h.storing.Standing) → Good g.positions (made g h taken)
+  begins taken = record { here = th.rules.begun; linked = tt; sound = empty _ }
 
-  each : {s s' : Stand} {es : List Event} → (run : Calls g h s es s') → Good g.positions s → Each run
+  each : {s s' : Stand h} {es : List Event} → (run : Calls g h s es s') → Good g.positions s → Each run
   each none k = tt
   each (then d r) k = let n = keeps d k in (k, n.0, n.1, each r n.1)
 
   -- where a list of calls from a making leaves a tester is a good stand
-  reaches : {s s' : Stand} {es : List Event} → Calls g h s es s' → Good g.positions s → Good g.positions s'
+  reaches : {s s' : Stand h} {es : List Event} → Calls g h s es s' → Good g.positions s → Good g.positions s'
   reaches none k = k
   reaches (then d r) k = reaches r (keeps d k).1
 
   pub every : EveryListStands g h
-  every es s run = each run begins
+  every taken es s run = each run (begins taken)
 
   -- after whatever list of calls from a making
-  pub right_after : {s s' : Stand} {c : Asked} {l l' : Lent} {r : Reply} → Does g h s c l r l' s' → RightAfter g h s c r l'
-  right_after d es run = (keeps d (reaches run begins)).0
+  pub right_after : {taken : h.storing.Standing} {s s' : Stand h} {c : Asked} {l l' : Lent} {r : Reply} {es : List Event} → Calls g h (made g h taken) es s → Does g h s c l r l' s' → Right g h s c r l'
+  right_after {taken = taken} run d = (keeps d (reaches run (begins taken))).0

@@ -5,8 +5,8 @@ use Rattle.table.specs.declared.Table as table
 use Rattle.tester.specs.declared.call.Call.{Call}
 use Rattle.tester.specs.declared.call.Call.TheVariants as made_of
 use Rattle.tester.specs.declared.reply.Reply.{Reply}
-use Rattle.tester.specs.Calls.{Stand, made, Asked, set, play, take_back, trial, solution, clear, Lent, Event, Calls, joined}
-use Rattle.tester.specs.Claims.{Each}
+use Rattle.tester.specs.Calls.{Stand, Asked, set, play, take_back, trial, solution, clear, Lent, Event, Calls}
+use Rattle.tester.specs.Claims.{AllRight}
 
 -- what a call asks
 abbrev pub asked : Call → Asked
@@ -25,12 +25,12 @@ pub data Replied : List Call → List Reply → Lent → List Event → Lent →
 
 -- What it is to perform calls on a tester: as many as there are places for replies, each lent the same records and buffer. Their replies
 -- are in the first places, and the other places stay. They are those of a list of calls that starts where the tester stood and ends where it
--- stands; and whatever list of calls from a making led there, each call of the whole list is right.
-pub record Performed {G T : Type 0} (g : game.Ghosts G) (h : table.Ghosts T) (cs : List Call) (s : Stand) (l : Lent) (rs : List Reply)
-    (n : ℕ) (s' : Stand) (l' : Lent) (rs' : List Reply) : Type 0 where
+-- stands, and each of these calls is right.
+pub record Performed {G T : Type 0} (g : game.Ghosts G) (h : table.Ghosts T) (cs : List Call) (s : Stand h) (l : Lent) (rs : List Reply)
+    (n : ℕ) (s' : Stand h) (l' : Lent) (rs' : List Reply) : Type 0 where
   pub many : n ≡ min (length cs) (length rs)
   pub events : List Event
   pub replied : Replied (take n cs) (take n rs') l events l'
   pub rest : drop n rs' ≡ drop n rs
   pub run : Calls g h s events s'
-  pub right : (es : List Event) (before : Calls g h (made g) es s) → Each (joined before run)
+  pub right : AllRight run

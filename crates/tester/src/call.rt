@@ -9,7 +9,7 @@ pub enum Call<'a> {
     TakeBack,
     /// Tries, within that budget, whether the attacker wins.
     Trial(u32),
-    /// Solves the position within the budget, with the move of the number `intended` as the first one.
+    /// Solves the position, with the budget for each trial. The line `!` of the first ply is for the move of the number `intended`, if it wins.
     Solution { intended: usize, budget: u32 },
     /// Empties the table.
     Clear,

@@ -1,6 +1,7 @@
-ghost use Rattle.tester.specs.Calls.{stand, Does};
+ghost use Rattle.tester.specs.Calls.{Does};
 ghost use Rattle.tester.specs.Claims.{EveryListStands, OneWay};
 ghost use Rattle.tester.specs.Performed.{asked, Performed};
+ghost use Rattle.tester.specs.Stands.{stand};
 
 use crate::call::Call;
 use crate::reply::Reply;
@@ -10,7 +11,7 @@ use table::{Pair, Table};
 
 impl<G: Game, T: Table> Tester<G, T> {
     /// Makes one call, with these records and this buffer.
-    fn call(&mut self, call: &Call<'_>, records: &mut [Pair], buffer: &mut [u8]) -> Reply
+    pub(crate) fn call(&mut self, call: &Call<'_>, records: &mut [Pair], buffer: &mut [u8]) -> Reply
         ensures { Does G.Game T.Table (stand G.Game T.Table self.old) (asked call.now) (record { records = records.old; buffer = buffer.old }) result (record { records = records.new; buffer = buffer.new }) (stand G.Game T.Table self.new) }
     {
         match call {

@@ -1,4 +1,4 @@
-ghost use Rattle.tester.specs.Claims.{EveryListStands, OneWay};
+ghost use Rattle.tester.specs.Claims.{EveryListStands, OneWay, RecordsAreNotRead};
 
 use game::Game;
 use table::Table;
@@ -11,4 +11,9 @@ pub fn every_list_stands<G: Game, T: Table>()
 /// From wherever a tester stands, each call has one outcome: what it answers, and what it leaves in path, table and buffer.
 pub fn one_way<G: Game, T: Table>()
     ensures { OneWay G.Game T.Table }
+{}
+
+/// From wherever a tester stands, no call's outcome depends on what the pair records hold that it is lent: only on how many they are.
+pub fn records_are_not_read<G: Game, T: Table>()
+    ensures { RecordsAreNotRead G.Game T.Table }
 {}

@@ -1,5 +1,5 @@
-use Rattle.tester.proofs.Single.{one-way-from}
+use Rattle.tester.proofs.Single.{one_way_lem}
 use Rattle.tester.proofs.theorems.one_way.Goals as goal
 
 pub returns : goal.returns
-returns g c = one-way-from g.G.Game g.T.Table
+returns g c = one_way_lem g.G.Game g.T.Table g.met.G.Game.lawful

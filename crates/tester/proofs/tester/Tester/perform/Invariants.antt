@@ -1,4 +1,4 @@
-use Rattle.tester.specs.Calls.{stand}
+use Rattle.tester.specs.Stands.{stand}
 use Rattle.tester.proofs.Performing.{Underway}
 use Rattle.tester.proofs.tester.Tester.perform.Given as goal
 

@@ -18,11 +18,11 @@ enum Seat<G: Picture> {
 }
 
 impl<G: Picture> Seat<G> {
-    fn new(heap: Global, policy: Policy) -> Result<Seat<G>, AllocError> {
-        Ok(match policy {
+    fn new(policy: Policy) -> Seat<G> {
+        match policy {
             Policy::None => Seat::None(Tester::new(NoTable)),
-            Policy::Newest => Seat::Newest(Tester::new(Newest::new(heap)?)),
-        })
+            Policy::Newest => Seat::Newest(Tester::new(Newest::new())),
+        }
     }
 
     fn answer(
@@ -46,18 +46,17 @@ enum Made {
 }
 
 impl Made {
-    fn new(heap: Global, kind: Kind, policy: Policy) -> Result<Made, AllocError> {
-        Ok(match kind {
-            Kind::Chess => Made::Chess(Seat::new(heap, policy)?),
-            Kind::Othello => Made::Othello(Seat::new(heap, policy)?),
-        })
+    fn new(kind: Kind, policy: Policy) -> Made {
+        match kind {
+            Kind::Chess => Made::Chess(Seat::new(policy)),
+            Kind::Othello => Made::Othello(Seat::new(policy)),
+        }
     }
 }
 
 /// The tester that was made last, and what is lent to its calls.
 #[derive(Drop)]
 pub struct Hall {
-    heap: Global,
     made: Made,
     desk: Desk,
 }
@@ -66,8 +65,7 @@ impl Hall {
     /// Before the first `make`: chess, with the newest policy.
     pub fn new(heap: Global) -> Result<Hall, AllocError> {
         Ok(Hall {
-            heap,
-            made: Made::new(heap, Kind::Chess, Policy::Newest)?,
+            made: Made::new(Kind::Chess, Policy::Newest),
             desk: Desk::new(heap)?,
         })
     }
@@ -76,7 +74,7 @@ impl Hall {
     pub fn answer(&mut self, page: &mut Vec<u8>, command: Command<'_>) -> io::Result<()> {
         match command {
             Command::Make { kind, policy } => {
-                self.made = Made::new(self.heap, kind, policy)?;
+                self.made = Made::new(kind, policy);
                 writeln!(page, "made {kind} {policy}")
             }
             Command::Ask(question) => match &mut self.made {

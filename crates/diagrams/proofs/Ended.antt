@@ -4,8 +4,7 @@ use Rattle.std.proofs.lemmas.Bool.{and_parts}
 use Rattle.game.specs.Tree.{Tree, Moves, none, move, state, code, ended}
 use Rattle.game.specs.declared.state.State.{State}
 use Rattle.game.specs.declared.state.State.TheVariants.{Won, NotWon, Attacker, Defender}
-use Rattle.table.specs.Pairs.{Held}
-use Rattle.search_laws.specs.Run.{Storing}
+use Rattle.table.specs.Storings.{Storing}
 use Rattle.search_laws.specs.Trial.{Trial, at_once, known_as, verdict_of}
 use Rattle.solution_laws.specs.Solution.{AllTried, no_more, tried}
 
@@ -24,14 +23,14 @@ abbrev pub all_ended : Moves → Bool
 all_ended none = true
 all_ended (move x t m) = ended (state t) && all_ended m
 
-module _ (stored : Storing) (held : Held) (b : ℕ) where
-  answered : (t : Tree) (s : State) → state t ≡ s → ended s ≡ true → Trial stored held t b (record { verdict = verdict_of (is_won s); expansions = 0; entries = 0 }) held
-  answered t Won e h = at_once (ap (λ s. known_as s (held (code t))) e)
-  answered t NotWon e h = at_once (ap (λ s. known_as s (held (code t))) e)
+module _ (S : Storing) (standing : S.Standing) (b : ℕ) where
+  answered : (t : Tree) (s : State) → state t ≡ s → ended s ≡ true → Trial S standing t b (record { verdict = verdict_of (is_won s); expansions = 0; entries = 0 }) standing
+  answered t Won e h = at_once (ap (λ s. known_as s (S.shows standing (code t))) e)
+  answered t NotWon e h = at_once (ap (λ s. known_as s (S.shows standing (code t))) e)
   answered t Attacker e h = absurd (cc)
   answered t Defender e h = absurd (cc)
 
-  pub ended_tried : (m : Moves) → all_ended m ≡ true → AllTried stored b held m (flags m) 0 held
+  pub ended_tried : (m : Moves) → all_ended m ≡ true → AllTried S b standing m (flags m) 0 standing
   ended_tried none e = no_more
   ended_tried (move x t m) e =
       let p = and_parts (ended (state t)) (all_ended m) e in

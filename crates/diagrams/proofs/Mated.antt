@@ -4,6 +4,7 @@ use Rattle.board.specs.Masks.{member}
 use Rattle.form.specs.Forms.{reading_from}
 use Rattle.game.specs.Tree.{Tree, position, state, nowhere, moves, next, words}
 use Rattle.game.specs.declared.state.State.TheVariants.{Won, Attacker}
+use Rattle.table.specs.Storings.{Storing}
 use Rattle.solution_laws.specs.declared.ending.Ending.TheVariants.{Done}
 use Rattle.solution_laws.specs.Lines.{Line}
 use Rattle.solution_laws.specs.Solution.{Solution, AllTried, first_win, best, wins, win, won}
@@ -21,13 +22,13 @@ use Rattle.diagrams.specs.Mates.{Mates, Writes, back_row_tree, four_keys_tree, b
 use Rattle.diagrams.proofs.Ended.{flags, all_ended, ended_tried}
 
 -- a mate in one of which the intended move is a key: its lines, given which moves win and the moves' texts
-solved : (t : Tree) (i : ℕ) (ws : List Bool) (xs : List (List ℕ)) (ls : List Line) → state t ≡ Attacker → all_ended (moves t) ≡ true → flags (moves t) ≡ ws → words t ≡ xs → get_or ws i false ≡ true → wins 1 i ws xs ≡ ls → length ls ≤ 4096 → state (get_or (next t) i nowhere) ≡ Won → Writes t i ls
-solved t i ws xs ls a e f w g l r n stored held b =
-    let all : AllTried stored b held (moves t) ws 0 held = subst (λ (vs : List Bool). AllTried stored b held (moves t) vs 0 held) f (ended_tried stored held b (moves t) e) in
+solved : (S : Storing) (t : Tree) (i : ℕ) (ws : List Bool) (xs : List (List ℕ)) (ls : List Line) → state t ≡ Attacker → all_ended (moves t) ≡ true → flags (moves t) ≡ ws → words t ≡ xs → get_or ws i false ≡ true → wins 1 i ws xs ≡ ls → length ls ≤ 4096 → state (get_or (next t) i nowhere) ≡ Won → Writes S t i ls
+solved S t i ws xs ls a e f w g l r n standing b =
+    let all : AllTried S b standing (moves t) ws 0 standing = subst (λ (vs : List Bool). AllTried S b standing (moves t) vs 0 standing) f (ended_tried S standing b (moves t) e) in
     let same : wins 1 i ws (words t) ≡ ls = ap (wins 1 i ws) w ∙ l in
     let first : best (Some i) ws ≡ Some i = ap (λ (c : Bool). cond c (Some i) (first_win ws)) g in
     let fits : length (wins 1 i ws (words t)) ≤ 4096 = subst (λ (ks : List Line). length ks ≤ 4096) (sym same) r in
-    subst (λ (ks : List Line). Solution stored b i t held 4096 (record { ending = Done; lines = ks; sum = 0 }) held) (append-nil (wins 1 i ws (words t)) ∙ same)
+    subst (λ (ks : List Line). Solution S b i t standing 4096 (record { ending = Done; lines = ks; sum = 0 }) standing) (append-nil (wins 1 i ws (words t)) ∙ same)
     (win a all first fits (won n))
 
 -- one_key
@@ -58,8 +59,8 @@ one_key-mates : state (get_or (next back_row_tree) 11 nowhere) ≡ Won
 unfolding tree state_of moves_from moves_to tries one after checked attacked attackers lines line leaps member
 one_key-mates = refl
 
-one_key-writes : Writes back_row_tree 11 back_row_lines
-one_key-writes = solved back_row_tree 11 one_key_flags one_key_words back_row_lines one_key-stands one_key-ended one_key-wins one_key-texts refl refl (lit≤ tt) one_key-mates
+one_key-writes : (S : Storing) → Writes S back_row_tree 11 back_row_lines
+one_key-writes S = solved S back_row_tree 11 one_key_flags one_key_words back_row_lines one_key-stands one_key-ended one_key-wins one_key-texts refl refl (lit≤ tt) one_key-mates
 
 -- four_keys
 
@@ -89,23 +90,23 @@ four-keys-mates : state (get_or (next four_keys_tree) 18 nowhere) ≡ Won
 unfolding tree state_of moves_from moves_to tries one after checked attacked attackers lines line leaps member
 four-keys-mates = refl
 
-four-keys-writes : Writes four_keys_tree 18 four_keys_lines
-four-keys-writes = solved four_keys_tree 18 four_keys_flags four_keys_words four_keys_lines four-keys-stands four-keys-ended four-keys-wins four-keys-texts refl refl (lit≤ tt) four-keys-mates
+four-keys-writes : (S : Storing) → Writes S four_keys_tree 18 four_keys_lines
+four-keys-writes S = solved S four_keys_tree 18 four_keys_flags four_keys_words four_keys_lines four-keys-stands four-keys-ended four-keys-wins four-keys-texts refl refl (lit≤ tt) four-keys-mates
 
 four_keys_set : reading_of (codes "7k/5K2/6Q1/8/8/8/8/8 w - -") 1 ≡ position four_keys_tree
 unfolding lawful rules_kept pawns_inner tally checked attacked attackers lines line leaps member reading_from man_of side_of run_of file_of empty
 four_keys_set = refl
 
-pub mates : Mates
-mates = record {
+pub mates : (S : Storing) → Mates S
+mates S = record {
   one_key_set = worked.back_row_set;
   one_key_count = worked.count;
   one_key_text = worked.text;
-  one_key = one_key-writes;
+  one_key = one_key-writes S;
   one_key_keys = (refl, refl);
   four_keys_set = four_keys_set;
   four_keys_text = ap (λ (xs : List (List ℕ)). get_or xs 18 []) four-keys-texts;
-  four_keys = four-keys-writes;
+  four_keys = four-keys-writes S;
   four_keys_keys = (refl, refl);
   stalemate_set = worked.stalemate_set;
   stalemate_ended = worked.stale;

@@ -5,12 +5,13 @@ use Rattle.form.specs.Forms.{reading_from}
 use Rattle.game.specs.Tree.{Tree, node, none, move, position, next, words, minimax, some_won, all_won}
 use Rattle.game.specs.declared.state.State.TheVariants.{Won, NotWon, Attacker, Defender}
 use Rattle.table.specs.Numbers.{capped}
-use Rattle.table.specs.Pairs.{Held, nothing, not_won}
-use Rattle.table.specs.Slots.{turned, mixed, slot_of, newest}
+use Rattle.table.specs.Pairs.{Shown, nothing, not_won}
+use Rattle.table.specs.Slots.{turned, mixed, slot_of}
+use Rattle.table.specs.Policies.{none_storing, newest_storing}
 use Rattle.search_laws.specs.declared.answer.Verdict.TheVariants as verdict
 use Rattle.search_laws.specs.Run.{gave, done, going, start}
 use Rattle.search_laws.specs.Trial.{Trial, need, until_won, until_not_won, at_once, by_the_run, by_the_search, spent}
-use Rattle.search_laws.specs.Examples.{forget, answer}
+use Rattle.search_laws.specs.Examples.{answer}
 use Rattle.search_laws.proofs.Evaluating.{runs_after}
 use Rattle.othello_rules.specs.Rules as rules
 use Rattle.othello_rules.specs.Rules.{run, after, begins, flipped, any, legal}
@@ -57,24 +58,25 @@ only_key = refl
 
 -- the trials
 
-four : Trial forget nothing passing 4 (answer verdict.NotWon 2 0) nothing
+four : Trial none_storing tt passing 4 (answer verdict.NotWon 2 0) tt
 unfolding capped
 four = by_the_run refl (going (going (going done))) refl
 
-three : Trial forget nothing passing 3 (answer verdict.NotWon 1 2) nothing
+three : Trial none_storing tt passing 3 (answer verdict.NotWon 1 2) tt
 unfolding capped minimax some_won all_won need until_won until_not_won
 three = by_the_search refl (going done) (lit≤ tt)
 
-two : Trial forget nothing passing 2 (answer verdict.Spent 1 1) nothing
+two : Trial none_storing tt passing 2 (answer verdict.Spent 1 1) tt
 unfolding capped minimax some_won all_won need until_won until_not_won
 two = spent refl (going done) (lit< tt)
 
 abbrev Twice : Tree → Type 0
-Twice t = (held : Held) × (Trial newest nothing t 4 (answer verdict.NotWon 2 0) held) × (Trial newest held t 4 (answer verdict.NotWon 0 0) held)
+Twice t =
+    (standing : Shown) × (Trial newest_storing nothing t 4 (answer verdict.NotWon 2 0) standing) × (Trial newest_storing standing t 4 (answer verdict.NotWon 0 0) standing)
 
 twice : Twice passing
 unfolding capped turned mixed slot_of
-twice = (_, by_the_run refl (runs_after newest 40 (start nothing 2 passing) (gave _ 0 not_won) refl) refl, at_once refl)
+twice = (_, by_the_run refl (runs_after newest_storing 40 (start newest_storing nothing 2 passing) (gave _ 0 not_won) refl) refl, at_once refl)
 
 pub endings : Endings
 endings = record {
@@ -82,8 +84,8 @@ endings = record {
   only_move = ap words placing-is;
   only_key = ap (λ (t : Tree). map minimax (next t)) placing-is ∙ only_key;
   to_pass_set = to_pass_set;
-  four = subst (λ (t : Tree). Trial forget nothing t 4 (answer verdict.NotWon 2 0) nothing) (sym passing-is) four;
-  three = subst (λ (t : Tree). Trial forget nothing t 3 (answer verdict.NotWon 1 2) nothing) (sym passing-is) three;
-  two = subst (λ (t : Tree). Trial forget nothing t 2 (answer verdict.Spent 1 1) nothing) (sym passing-is) two;
+  four = subst (λ (t : Tree). Trial none_storing tt t 4 (answer verdict.NotWon 2 0) tt) (sym passing-is) four;
+  three = subst (λ (t : Tree). Trial none_storing tt t 3 (answer verdict.NotWon 1 2) tt) (sym passing-is) three;
+  two = subst (λ (t : Tree). Trial none_storing tt t 2 (answer verdict.Spent 1 1) tt) (sym passing-is) two;
   twice = subst Twice (sym passing-is) twice;
 }

@@ -113,7 +113,7 @@ fn main(rt: HostRuntime) -> io::Result<()> {
     let mut records = vec![in heap; Pair::FRESH; search::RECORDS]?;
     for ending in &ENDINGS {
         report(&rt, "none", ending, NoTable, &mut records)?;
-        report(&rt, "newest", ending, Newest::new(heap)?, &mut records)?;
+        report(&rt, "newest", ending, Newest::new(), &mut records)?;
     }
     Ok(())
 }

@@ -6,4 +6,4 @@ use Rattle.diagrams.proofs.diagrams_stand.Goals as goal
 
 pub returns : goal.returns
 unfolding capped
-returns c = record { mates = mates; endings = endings; sum = refl }
+returns g c = record { mates = mates g.T.Table.storing; endings = endings; sum = refl }

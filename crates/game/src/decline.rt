@@ -1,29 +1,34 @@
 ghost use Rattle.std.specs.Prelude.{◌≡◌};
 ghost use Rattle.game.specs.Declines.{number, NumberTells};
 
-/// Why a call is declined, in the order in which the causes are checked. Each has the number by which it is known.
+use crate::OwnCause;
+
+/// Why a call is declined, in the order in which the causes are checked. Each has the number by which it is known: the ten that have a name have
+/// 1 to 10, and any other is a game's own.
 #[derive(Clone, Copy, PartialEq, Eq, Debug)]
 pub enum Decline {
     /// The budget is above 99,999,999.
-    Budget = 1,
+    Budget,
     /// Fewer than 6,144 pair records are lent.
-    Records = 2,
+    Records,
     /// The solution buffer's length is no multiple of 8, or over 32,768.
-    Buffer = 3,
+    Buffer,
     /// A solution is wanted where the attacker is not to move.
-    NotAttacker = 4,
+    NotAttacker,
     /// The move number is not below the count of moves.
-    MoveNumber = 5,
+    MoveNumber,
     /// The path has one position, so none can be taken back.
-    TakeBack = 6,
+    TakeBack,
     /// The aim is not one of the game's.
-    Aim = 7,
+    Aim,
     /// The text departs from its form.
-    Form = 8,
+    Form,
     /// The chess diagram breaks a rule of positions.
-    Unlawful = 9,
+    Unlawful,
     /// The Othello position has too many empty squares.
-    Empties = 10,
+    Empties,
+    /// A cause of a game's own: its reading refuses the text.
+    Own(OwnCause),
 }
 
 impl Decline {
@@ -31,7 +36,19 @@ impl Decline {
     pub fn number(self) -> u8
         ensures { result ≡ number self }
     {
-        self as u8
+        match self {
+            Decline::Budget => 1,
+            Decline::Records => 2,
+            Decline::Buffer => 3,
+            Decline::NotAttacker => 4,
+            Decline::MoveNumber => 5,
+            Decline::TakeBack => 6,
+            Decline::Aim => 7,
+            Decline::Form => 8,
+            Decline::Unlawful => 9,
+            Decline::Empties => 10,
+            Decline::Own(cause) => cause.number(),
+        }
     }
 }
 

@@ -2,6 +2,7 @@
 
 mod decline;
 mod game;
+mod own_cause;
 mod path;
 mod paths;
 mod played;
@@ -12,6 +13,7 @@ mod state;
 
 pub use decline::{Decline, SetDecline, number_tells};
 pub use game::Game;
+pub use own_cause::OwnCause;
 pub use path::Path;
 pub use played::Played;
 pub use position::Position;

@@ -1,4 +1,4 @@
-ghost use Rattle.std.specs.Prelude.{◌≡◌, List, ◌∷◌};
+ghost use Rattle.std.specs.Prelude.{◌≡◌, ◌<◌, List, ◌∷◌, length};
 
 use crate::Stack;
 
@@ -26,10 +26,11 @@ fn an_entry_that_is_not_copied(rt: HostRuntime) {
 
 // What the lender knows of its slice when the stack's life has ended.
 fn write_first(slots: &mut [u32])
+    requires { 0 < length slots.old }
     ensures { (e : _) (es : List _) → slots.old ≡ e ∷ es → slots.new ≡ 7 ∷ es }
 {
     let mut stack = Stack::new(slots);
-    let _ = stack.push(7);
+    stack.push(7).unwrap();
 }
 
 #[test]

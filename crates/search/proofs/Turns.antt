@@ -1,6 +1,5 @@
 -- The turns of the plain search, as facts of its model.
-use Rattle.std.proofs.Common.{◌≡◌, ℕ, zero, suc, ◌+◌, ◌<◌, ◌≤◌, Bool, true, false, cond, not, List, [], ◌∷◌, length, get_or, Ok, Err, Result as Answered, sym, refl, ap, ◌∙◌, arith}
-use Rattle.game.specs.declared.decline.Decline.{Decline}
+use Rattle.std.proofs.Common.{◌≡◌, ℕ, zero, suc, ◌+◌, ◌<◌, ◌≤◌, Bool, true, false, cond, not, List, [], ◌∷◌, length, get_or, sym, refl, ap, ◌∙◌, arith}
 use Rattle.game.specs.Tree.{Tree, Moves, node, none, move, state, rank, moves, successors, next, nowhere, minimax, some_won, all_won}
 use Rattle.game.specs.declared.state.State.{State}
 use Rattle.game.specs.declared.state.State.TheVariants.{Won, NotWon, Attacker, Defender}
@@ -13,7 +12,6 @@ use Rattle.search.specs.declared.entry.Turn.TheVariants.{Look, Try, Back}
 use Rattle.search_laws.specs.Trial.{need, until_won, until_not_won}
 use Rattle.search.specs.Backs.{back}
 use Rattle.search.specs.Search.{wins, skipped, Opened, opened, open_at, below, value, cost, alike, decides, Result, result, final, size, sizes, rest, work, Leads, Holds, Goes}
-use Rattle.search.proofs.Moves.{PlaySays, BackSays, PushSays, played, pushed}
 
 -- the positions by their states
 
@@ -175,16 +173,9 @@ module _ (e : Entry) (es : List Entry) (t : Tree) (ts : List Tree) (n : ℕ) (mo
       let p = ap (λ m'. final (below es ts) (value (opened a m')) (n + cost (opened a m'))) s ∙ split a (below es ts) x u m n (minimax u) refl in
       ((omega arith, (h.0, h.1, h.2), sym p ∙ h.3), omega arith)
 
-  pub try_taken : {X Y : Type 0} (r : Answered X Entry) (o : Answered Y Decline) (es' : List Entry) (t' : Tree) (ts' : List Tree) (places : ℕ) → places ≡ 32
-      → PushSays waiting es places es' r → PlaySays e.next t ts t' ts' o → Goes (Try e) es t ts n Look es' t' ts' n
-  unfolding Goes Holds
-  try_taken r o es' t' ts' places room push play t₀ ts₀ h =
-      let d : e.next < length (next t) = omega (arith, h.1) in
-      let less = falls e.next d in
-      let a = pushed r waiting es places es' push (omega (arith, h.0)) in
-      let b = (played o e.next t ts t' ts' play d).0 in
-      let c = (played o e.next t ts t' ts' play d).1 in
-      rw (a, b, c) (try_move_lem t₀ ts₀ h)
+  pub try_taken : (es' : List Entry) (t' : Tree) (ts' : List Tree) → es' ≡ waiting ∷ es → t' ≡ get_or (next t) e.next nowhere → ts' ≡ t ∷ ts
+      → Goes (Try e) es t ts n Look es' t' ts' n
+  try_taken es' t' ts' a b c = rw (a, b, c) try_move_lem
 
 -- coming back
 
@@ -197,20 +188,11 @@ module _ (e : Entry) (es : List Entry) (t t' : Tree) (ts ts' : List Tree) (n : �
   unfolding Goes Holds work below rest Leads final
   back_on d t₀ ts₀ h = ((h.0.0, h.0.1, h.0.2, rw d at h.1), omega arith)
 
-  -- to the turn s, which is right if the take-back is
-  came : {X : Type 0} (o : Answered X Decline) (s : Turn) → BackSays t ts t' ts' o
-      → Goes (Back v) (e ∷ es) t (t' ∷ ts') n s es t' ts' n → Goes (Back v) (e ∷ es) t ts n s es t' ts' n
-  unfolding Goes Holds Leads
-  came (Ok x) s h k t₀ ts₀ l = rw h (k t₀ ts₀ (rw h at l))
-  came (Err x) s h k t₀ ts₀ l = let p = h.0 in let n : Leads (e ∷ es) t [] t₀ ts₀ = rw p at l.0 in absurd n
+  pub came_decided : ts ≡ t' ∷ ts' → alike (wins e.side) (wins v) ≡ true → Goes (Back v) (e ∷ es) t ts n (Back v) es t' ts' n
+  came_decided h d = rw h (back_decides d)
 
-  pub came_decided : {X : Type 0} (o : Answered X Decline) → BackSays t ts t' ts' o
-      → alike (wins e.side) (wins v) ≡ true → Goes (Back v) (e ∷ es) t ts n (Back v) es t' ts' n
-  came_decided o h d = came o (Back v) h (back_decides d)
-
-  pub came_on : {X : Type 0} (o : Answered X Decline) → BackSays t ts t' ts' o
-      → alike (wins e.side) (wins v) ≡ false → Goes (Back v) (e ∷ es) t ts n (Try e) es t' ts' n
-  came_on o h d = came o (Try e) h (back_on d)
+  pub came_on : ts ≡ t' ∷ ts' → alike (wins e.side) (wins v) ≡ false → Goes (Back v) (e ∷ es) t ts n (Try e) es t' ts' n
+  came_on h d = rw h (back_on d)
 
 pub wins_by : (s : Side) (b : Bool) → (b ≡ true → s ≡ Attacks) → (b ≡ false → s ≡ Attacks → ⊥) → b ≡ wins s
 wins_by Attacks true f g = refl
@@ -238,6 +220,27 @@ unfolding Leads back
 leads-back [] t ts t₀ ts₀ l = λ i. (l.0 i, l.1 i)
 leads-back (e ∷ es) t [] t₀ ts₀ l = absurd l
 leads-back (e ∷ es) t (u ∷ ts) t₀ ts₀ l = leads-back es u ts t₀ ts₀ l.2
+
+pub leads_long : (es : List Entry) (t : Tree) (ts : List Tree) (t₀ : Tree) (ts₀ : List Tree) → Leads es t ts t₀ ts₀ → length es ≤ length ts
+unfolding Leads
+leads_long [] t ts t₀ ts₀ l = omega arith
+leads_long (e ∷ es) t [] t₀ ts₀ l = absurd l
+leads_long (e ∷ es) t (u ∷ ts) t₀ ts₀ l = let k = leads_long es u ts t₀ ts₀ l.2 in omega arith
+
+-- what the turns ask
+
+pub try_asks : (s : Turn) (e : Entry) (es : List Entry) (t : Tree) (ts : List Tree) (n : ℕ) (t₀ : Tree) (ts₀ : List Tree)
+    → s ≡ Try e → Holds s es t ts n t₀ ts₀ → (e.count ≡ length (next t)) × (rank t + length es ≤ 32)
+unfolding Holds
+try_asks s e es t ts n t₀ ts₀ p h = let k : Holds (Try e) es t ts n t₀ ts₀ = rw p at h in (k.1, k.0)
+
+pub back_asks : (s : Turn) (v : Side) (e : Entry) (es below : List Entry) (t : Tree) (ts : List Tree) (n : ℕ) (t₀ : Tree) (ts₀ : List Tree)
+    → s ≡ Back v → es ≡ e ∷ below → Holds s es t ts n t₀ ts₀ → 0 < length ts
+unfolding Holds
+back_asks s v e es below t ts n t₀ ts₀ p q h =
+    let k : Holds (Back v) (e ∷ below) t ts n t₀ ts₀ = rw (p, q) at h in
+    let l = leads_long (e ∷ below) t ts t₀ ts₀ k.0 in
+    omega arith
 
 pub search_started : (es : List Entry) (t : Tree) (ts : List Tree) (d : ℕ) → es ≡ [] → rank t ≤ d → d ≤ 32 → Holds Look es t ts 0 t ts
 unfolding Holds Leads below final

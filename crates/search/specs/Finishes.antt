@@ -1,11 +1,11 @@
--- How a run ends, as the program says it.
-use Rattle.std.specs.Prelude.{ℕ, ◌≤◌, Some, None, Option}
-use Rattle.game.specs.Tree.{Tree}
+-- How the program says the outcome of a run.
+use Rattle.std.specs.Prelude.{◌≡◌, Some, None, Option}
 use Rattle.search.specs.declared.frame.Given.{Given}
-use Rattle.search_laws.specs.Run.{stopped, gave, Runs, start}
-use Rattle.table.specs.Storings.{Storing}
+use Rattle.table.specs.declared.pair.Pair.{Pair}
+use Rattle.search_laws.specs.Run.{Outcome, stopped, gave}
+use Rattle.search_laws.specs.Trial.{decided}
 
--- the run on the position t
-abbrev pub Finished : (S : Storing) → S.Standing → ℕ → Tree → Option Given → S.Standing → Type 0
-Finished S standing left t None standing' = Runs S (start S standing left t) (stopped standing')
-Finished S standing left t (Some g) standing' = (g.left ≤ left) × Runs S (start S standing left t) (gave standing' g.left g.pair)
+-- stopped, or with a decided pair, of which the value is said, and the expansions left
+abbrev pub Tells : {A : Type 0} → Option Given → A → Outcome A → Type 0
+Tells None standing o = o ≡ stopped standing
+Tells (Some g) standing o = (p : Pair) × (decided p ≡ Some g.won) × (o ≡ gave standing g.left p)

@@ -1,5 +1,5 @@
 pub mod Backs
 pub mod Plain
 pub mod Search
-pub mod Machine
+pub mod Steps
 pub mod Finishes

@@ -1,6 +1,7 @@
 ghost use Rattle.std.specs.Prelude.{◌≡◌};
 ghost use Rattle.game.specs.Tree.{code};
 ghost use Rattle.search_laws.specs.Trial.{decided, known, pair_of, Trial};
+ghost use Rattle.search_laws.specs.declared.answer.Answer.{Answer as Kept};
 ghost use Rattle.search_laws.specs.Calls.{Tried, Right};
 
 use crate::budget::Budget;
@@ -12,24 +13,24 @@ use game::{Decline, Game};
 use search_laws::{Answer, Verdict};
 use table::{Pair, Table};
 
-// The verdict of a decided pair.
-fn decided_verdict(pair: Pair) -> Option<Verdict>
+// The value of a pair, if it is decided.
+fn value_of(pair: Pair) -> Option<bool>
     ensures { result ≡ decided pair }
 {
     if pair == Pair::WON {
-        return Some(Verdict::Won);
+        return Some(true);
     }
     if pair == Pair::NOT_WON {
-        return Some(Verdict::NotWon);
+        return Some(false);
     }
     None
 }
 
-// The verdict where nothing has to be searched: the position has ended, or the table shows a decided pair for it.
-fn known_verdict<G: Game, T: Table>(game: &G, table: &T) -> Option<Verdict>
+// The value where nothing has to be searched: the position has ended, or the table shows a decided pair for it.
+fn known_value<G: Game, T: Table>(game: &G, table: &T) -> Option<bool>
     ensures { result ≡ known (T.storing.shows (T.standing table.now)) (G.current game.now) }
 {
-    known_pair(game, table).and_then(decided_verdict)
+    known_pair(game, table).and_then(value_of)
 }
 
 /// A trial on the current position, from where the table stands, with a budget and the records that it may use. Declined with
@@ -60,7 +61,7 @@ fn store_value<G: Game, T: Table>(game: &G, table: &mut T, won: bool)
 }
 
 /// The trial that is never declined: what is known already, else the run with half of the budget, else the plain search with the rest.
-/// The records may hold any pairs afterwards.
+/// The records may hold any pairs afterwards. By the rules of a trial it could answer nothing else, and leave the table standing nowhere else.
 pub fn try_position<G: Game, T: Table>(
     game: &mut G,
     table: &mut T,
@@ -70,10 +71,12 @@ pub fn try_position<G: Game, T: Table>(
     ensures at { G.current game.new ≡ G.current game.old }
     ensures path { G.earlier game.new ≡ G.earlier game.old }
     ensures tried { Trial T.storing (T.standing table.old) (G.current game.old) budget.amount result (T.standing table.new) }
+    ensures only { (a : Kept) (standing : T.storing.Standing) → Trial T.storing (T.standing table.old) (G.current game.old) budget.amount a standing
+        → (a ≡ result) × (standing ≡ T.standing table.new) }
 {
-    if let Some(verdict) = known_verdict(game, table) {
+    if let Some(won) = known_value(game, table) {
         return Answer {
-            verdict,
+            verdict: Verdict::of(won),
             expansions: 0,
             entries: 0,
         };
@@ -83,7 +86,7 @@ pub fn try_position<G: Game, T: Table>(
     let share = budget - half;
     if let Some(given) = run(game, table, half, records) {
         return Answer {
-            verdict: decided_verdict(given.pair).unwrap(),
+            verdict: Verdict::of(given.won),
             expansions: half - given.left,
             entries: 0,
         };

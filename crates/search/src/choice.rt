@@ -1,23 +1,25 @@
-ghost use Rattle.std.specs.Prelude.{◌≡◌};
-ghost use Rattle.search_laws.specs.Run.{mover, reached_at, turned, handed_down};
+ghost use Rattle.std.specs.Prelude.{◌≡◌, Decides};
+ghost use Rattle.search_laws.specs.Run.{mover, Reached, turned, handed_down};
 
 use game::State;
 use search_laws::Thresholds;
 use table::{Pair, Side, TOP};
 
-// The side to move.
+// The side to move: of a position that has ended, of which no frame is, the attacker.
 pub(crate) fn side_of(state: State) -> Side
     ensures { result ≡ mover state }
 {
     match state {
-        State::Won | State::NotWon | State::Attacker => Side::Attacker,
+        State::Won => Side::Attacker,
+        State::NotWon => Side::Attacker,
+        State::Attacker => Side::Attacker,
         State::Defender => Side::Defender,
     }
 }
 
 // Whether one of a pair's numbers has reached its threshold.
 pub(crate) fn has_reached(thresholds: Thresholds, pair: Pair) -> bool
-    ensures { result ≡ reached_at thresholds pair }
+    ensures { Decides result (Reached thresholds pair) }
 {
     thresholds.proof <= pair.proof() || thresholds.disproof <= pair.disproof()
 }

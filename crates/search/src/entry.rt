@@ -1,7 +1,7 @@
 use table::Side;
 
 // A position of the plain search: the number of the next move to try, how many moves there are, and the side to move.
-#[derive(Clone, Copy)]
+#[derive(Clone, Copy, Debug)]
 pub(crate) struct Entry {
     pub next: usize,
     pub count: usize,

@@ -3,7 +3,7 @@ use table::{Pair, Side};
 
 // A frame of the run: where its successors' pairs stand in the records, its thresholds, the side to move, and the number of the
 // successor that it has taken. The two bounds are no `Range`, which is not `Copy`, as an entry of the stack must be.
-#[derive(Clone, Copy)]
+#[derive(Clone, Copy, Debug)]
 pub(crate) struct Frame {
     pub base: usize,
     pub end: usize,
@@ -22,9 +22,10 @@ pub(crate) enum Step {
     Back(Pair),
 }
 
-// What a run gives where it is not stopped for want of an expansion: the start position's pair, and how many expansions are left.
+// What a run gives where it is not stopped for want of an expansion: the start position's value, and how many expansions are left.
 #[derive(Clone, Copy)]
 pub(crate) struct Given {
     pub left: u32,
-    pub pair: Pair,
+    /// minimax's value, where the table showed no false decided pair
+    pub won: bool,
 }

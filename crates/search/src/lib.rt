@@ -6,6 +6,7 @@ mod choice;
 mod entry;
 mod frame;
 mod listing;
+mod path;
 mod plain;
 mod proof_number;
 mod records;

@@ -2,6 +2,7 @@ ghost use Rattle.std.specs.Prelude.{◌≡◌, ◌<◌, if◌then◌else◌, Som
 ghost use Rattle.game.specs.Tree.{nowhere, state, code, next, ended};
 ghost use Rattle.search_laws.specs.Run.{listed};
 
+use crate::path::{play_move, take_move_back};
 use game::{Game, State};
 use table::{Pair, Table};
 
@@ -15,7 +16,8 @@ pub(crate) fn known_pair<G: Game, T: Table>(game: &G, table: &T) -> Option<Pair>
     match game.state() {
         State::Won => Some(Pair::WON),
         State::NotWon => Some(Pair::NOT_WON),
-        State::Attacker | State::Defender => table.look_up(&game.code()),
+        State::Attacker => table.look_up(&game.code()),
+        State::Defender => table.look_up(&game.code()),
     }
 }
 
@@ -33,9 +35,9 @@ fn listed_move<G: Game, T: Table>(game: &mut G, table: &T, i: usize) -> Pair
     ensures path { G.earlier game.new ≡ G.earlier game.old }
     ensures pair { result ≡ listed (T.storing.shows (T.standing table.now)) (slice_index_or (next (G.current game.old)) i nowhere) }
 {
-    game.play(i).unwrap();
+    play_move(game, i);
     let pair = listed_pair(game, table);
-    game.take_back().unwrap();
+    take_move_back(game);
     pair
 }
 

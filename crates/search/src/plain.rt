@@ -1,5 +1,6 @@
-ghost use Rattle.std.specs.Prelude.{◌≡◌, ℕ, ◌<◌, ◌≤◌, List, ◌∷◌, MatchOption};
-ghost use Rattle.game.specs.Tree.{Tree};
+ghost use Rattle.std.specs.Prelude.{◌≡◌, ℕ, ◌+◌, ◌<◌, ◌≤◌, List, ◌∷◌, length, MatchOption};
+ghost use Rattle.game.specs.Limits.{depth_limit};
+ghost use Rattle.game.specs.Tree.{Tree, rank, next};
 ghost use Rattle.stack.specs.Contents.{contents, room};
 ghost use Rattle.search.specs.declared.entry.Entry.{Entry as Kept};
 ghost use Rattle.search.specs.declared.entry.Turn.TheVariants.{Look, Try, Back};
@@ -8,6 +9,7 @@ ghost use Rattle.search.specs.Plain.{Searched};
 ghost use Rattle.search.specs.Search.{Goes, Holds};
 
 use crate::entry::{Entry, Found, Turn};
+use crate::path::{play_move, push_entry, take_move_back};
 use crate::unwind::take_all_back;
 use game::{Game, State};
 use stack::Stack;
@@ -46,9 +48,11 @@ fn look<G: Game>(game: &G, entries: &mut u32, share: u32) -> Option<Turn>
 }
 
 // Tries the next move of the current position's entry, or goes back where none is left. The stack's room is asked here, since a stack is
-// over a lent slice of any length. The contract is of any stack and path, so it is not known here that the push and the play succeed.
+// over a lent slice of any length.
 fn try_next<G: Game>(game: &mut G, stack: &mut Stack<'_, Entry>, entry: Entry) -> Turn
-    requires { room stack.old ≡ 32 }
+    requires room { room stack.old ≡ 32 }
+    requires count { entry.count ≡ length (next (G.current game.old)) }
+    requires places { rank (G.current game.old) + length (contents stack.old) ≤ depth_limit }
     ensures goes { (n : ℕ) → Goes (Try entry) (contents stack.old) (G.current game.old) (G.earlier game.old) n
         result (contents stack.new) (G.current game.new) (G.earlier game.new) n }
     ensures room { room stack.new ≡ 32 }
@@ -56,21 +60,22 @@ fn try_next<G: Game>(game: &mut G, stack: &mut Stack<'_, Entry>, entry: Entry) -
     if entry.next >= entry.count {
         return Turn::Back(entry.side.other());
     }
-    let _ = stack.push(Entry {
+    let waiting = Entry {
         next: entry.next + 1,
         ..entry
-    });
-    let _ = game.play(entry.next);
+    };
+    push_entry(stack, waiting);
+    play_move(game, entry.next);
     Turn::Look
 }
 
-// Goes back to an entry's position with the side that has the current one. The contract is of any path, so it is not known here that there
-// is a move to take back.
+// Goes back to an entry's position with the side that has the current one.
 fn come_back<G: Game>(game: &mut G, entry: Entry, winner: Side) -> Turn
+    requires { 0 < length (G.earlier game.old) }
     ensures { (es : List Kept) (n : ℕ) → Goes (Back winner) (entry ∷ es) (G.current game.old) (G.earlier game.old) n
         result es (G.current game.new) (G.earlier game.new) n }
 {
-    let _ = game.take_back();
+    take_move_back(game);
     if winner == entry.side {
         return Turn::Back(winner);
     }

@@ -1,15 +1,18 @@
-ghost use Rattle.std.specs.Prelude.{◌≡◌, ℕ, suc, ◌+◌, ◌<◌, ◌≤◌, List, length, slice_set};
-ghost use Rattle.game.specs.Tree.{Tree, next};
+ghost use Rattle.std.specs.Prelude.{◌≡◌, ℕ, suc, ◌+◌, ◌<◌, ◌≤◌, ◌⊎◌, List, ◌∷◌, length, Some, MatchOption, slice_set};
+ghost use Rattle.game.specs.Tree.{next};
 ghost use Rattle.stack.specs.Contents.{contents, room};
 ghost use Rattle.search.specs.declared.frame.Frame.{Frame as Kept};
 ghost use Rattle.search.specs.declared.frame.Step.TheVariants.{Enter, Work};
-ghost use Rattle.search.specs.Backs.{back};
-ghost use Rattle.search.specs.Machine.{free, Goes};
-ghost use Rattle.search.specs.Finishes.{Finished};
+ghost use Rattle.search.specs.Steps.{free, Fits, Goes};
+ghost use Rattle.search.specs.Finishes.{Tells};
+ghost use Rattle.search_laws.specs.Run.{Outcome, Enters, tops};
+ghost use Rattle.search_laws.specs.Trial.{decided};
+ghost use Rattle.table.specs.Pairs.{won, not_won};
 
 use crate::choice::{hand_down, has_reached, side_of};
 use crate::frame::{Frame, Given, Step};
 use crate::listing::list_pairs;
+use crate::path::{play_move, push_entry, take_move_back};
 use crate::records::Records;
 use crate::unwind::take_all_back;
 use game::Game;
@@ -61,19 +64,18 @@ fn enter<G: Game, T: Table>(
 }
 
 // Hands a pair to a frame that waited for it: goes back to the frame's position, and writes its record of the successor that it has taken.
-// The contract is of any path, so it is not known here that there is a move to take back.
 fn hand_back<G: Game>(game: &mut G, records: &mut [Pair], frame: Frame, pair: Pair)
-    requires { frame.base + frame.chosen < length records.old }
+    requires played { 0 < length (G.earlier game.old) }
+    requires inside { frame.base + frame.chosen < length records.old }
     ensures rewrites { records.new ≡ slice_set records.old (frame.base + frame.chosen) pair }
-    ensures takes_back { ◌≡◌ {A = Tree × List Tree} (G.current game.new, G.earlier game.new) (back 1 (G.current game.old) (G.earlier game.old)) }
+    ensures takes_back { G.earlier game.old ≡ G.current game.new ∷ G.earlier game.new }
 {
-    let _ = game.take_back();
+    take_move_back(game);
     records[frame.base + frame.chosen] = pair;
 }
 
 // Looks at the current position's frame: with a threshold reached it stores its pair and hands it on, else it takes a successor. The
-// stack's room is asked here, since a stack is over a lent slice of any length. The contract is of any stack and path, so it is not known
-// here that the push and the play succeed.
+// stack's room is asked here, since a stack is over a lent slice of any length.
 fn work<G: Game, T: Table>(
     game: &mut G,
     table: &mut T,
@@ -82,7 +84,7 @@ fn work<G: Game, T: Table>(
     frame: Frame,
 ) -> Step
     requires room { room stack.old ≡ 32 }
-    requires order { frame.base ≤ frame.end }
+    requires fits { Fits G.width frame (G.current game.old) (contents stack.old) }
     requires inside { frame.end ≤ length records.now }
     ensures goes { (n : ℕ) → Goes T.storing G.width
         (Work frame) (contents stack.old) (G.current game.old) (G.earlier game.old) records.now (T.standing table.old) n
@@ -97,15 +99,25 @@ fn work<G: Game, T: Table>(
         return Step::Back(figures.pair);
     }
     let thresholds = hand_down(frame.side, frame.thresholds, figures.second, figures.rest);
-    let _ = stack.push(Frame {
+    let waiting = Frame {
         chosen: figures.place,
         ..frame
-    });
-    let _ = game.play(figures.place);
+    };
+    push_entry(stack, waiting);
+    play_move(game, figures.place);
     Step::Enter(thresholds)
 }
 
-// Runs on the current position with so many expansions: `None` where they are not enough.
+// The value of a decided pair.
+fn decided_value(pair: Pair) -> bool
+    requires { (pair ≡ won) ⊎ (pair ≡ not_won) }
+    ensures { decided pair ≡ Some result }
+{
+    pair == Pair::WON
+}
+
+// Runs on the current position with so many expansions: `None` where they are not enough. The run comes to what is told here, and by its
+// rules it could come to nothing else.
 pub(crate) fn run<G: Game, T: Table>(
     game: &mut G,
     table: &mut T,
@@ -114,7 +126,11 @@ pub(crate) fn run<G: Game, T: Table>(
 ) -> Option<Given>
     ensures at { G.current game.new ≡ G.current game.old }
     ensures path { G.earlier game.new ≡ G.earlier game.old }
-    ensures run { Finished T.storing (T.standing table.old) left (G.current game.old) result (T.standing table.new) }
+    ensures comes { (o : Outcome T.storing.Standing) × Enters T.storing (T.standing table.old) left (G.current game.old) tops o
+        × Tells result (T.standing table.new) o }
+    ensures only { (o : Outcome T.storing.Standing) → Enters T.storing (T.standing table.old) left (G.current game.old) tops o
+        → Tells result (T.standing table.new) o }
+    ensures within { MatchOption result (Unit {0}) (λ given. given.left ≤ left) }
 {
     let mut room = [NO_FRAME; 32];
     let mut stack = Stack::new(&mut room);
@@ -140,7 +156,12 @@ pub(crate) fn run<G: Game, T: Table>(
                     hand_back(game, records, frame, pair);
                     Step::Work(frame)
                 }
-                None => return Some(Given { left: rest, pair }),
+                None => {
+                    return Some(Given {
+                        left: rest,
+                        won: decided_value(pair),
+                    });
+                }
             },
         };
     }

@@ -1,87 +1,60 @@
 -- The pair that a run gives is decided, so every trial ends.
-use Rattle.std.proofs.Common.{◌≡◌, ℕ, zero, suc, ◌<◌, ◌≤◌, Bool, true, false, ◌||◌, leb, ◌⊎◌, List, [], ◌∷◌, set, Some, None, Option, refl, ap, subst, inl, inr, arith, leb-true}
+use Rattle.std.proofs.Common.{◌≡◌, ◌≤◌, Bool, true, false, ◌⊎◌, Some, None, Option, refl, ap, inl, inr, arith}
 use native.Mathlib.Decide.{dec_le}
-use Rattle.game.specs.Tree.{Tree}
+use Rattle.game.specs.Tree.{minimax}
 use Rattle.table.specs.declared.pair.Pair.{Pair}
-use Rattle.table.specs.Numbers.{top}
-use Rattle.table.specs.Formed.{Form, is_won, is_not_won, is_open, form}
-use Rattle.table.specs.Pairs.{won, not_won, same_pair}
+use Rattle.table.specs.Pairs.{won, not_won}
 use Rattle.table.specs.Storings.{Storing}
+use Rattle.table.proofs.Formed.{Form, is_won, is_not_won, is_open, form}
+use Rattle.table.proofs.Frames.{same_pair}
 use Rattle.search_laws.specs.declared.answer.Verdict.{Verdict}
-use Rattle.search_laws.specs.declared.answer.Verdict.TheVariants.{Won as IsWon, NotWon as IsNotWon}
+use Rattle.search_laws.specs.declared.answer.Verdict.TheVariants.{Won as IsWon, NotWon as IsNotWon, Spent as IsSpent}
 use Rattle.search_laws.specs.declared.answer.Answer.{Answer}
-use Rattle.search_laws.specs.Run.{Frame, pair, reached, chosen, Outcome, stopped, gave, Course, over, on, turn, Runs, done, going, start}
+use Rattle.search_laws.specs.Run.{Reached, tops, Outcome, stopped, gave, Enters}
 use Rattle.search_laws.specs.Trial.{decided, known, need, half, share, Trial, at_once, by_the_run, by_the_search, spent}
+use Rattle.search_laws.specs.Words.{word, value_word}
 use Rattle.search_laws.specs.Claims.{RunsDecide, TrialsEnd}
-use Rattle.search_laws.specs.declared.thresholds.Thresholds.{Thresholds}
+use Rattle.search_laws.proofs.Counting.{given_reaches_lem}
 use Rattle.search_laws.proofs.Courses.{runs_end}
 
 -- a pair with a number at `top` is decided
-formed-decided : (p : Pair) → (leb top p.proof || leb top p.disproof) ≡ true → (p ≡ won) ⊎ (p ≡ not_won)
-formed-decided p e₀ = by (form p.proof p.disproof p.formed)
+reached_decided : (p : Pair) → Reached tops p → (p ≡ won) ⊎ (p ≡ not_won)
+reached_decided p r = by (form p.proof p.disproof p.formed) r
   where
-    go : (x y : Bool) → p.proof < top → p.disproof < top → leb top p.proof ≡ x → leb top p.disproof ≡ y → (x || y) ≡ true → (p ≡ won) ⊎ (p ≡ not_won)
-    go true y l k i j e = let z : top ≤ p.proof = leb-true top p.proof i in absurd (omega arith)
-    go false true l k i j e = let z : top ≤ p.disproof = leb-true top p.disproof j in absurd (omega arith)
-    go false false l k i j e = absurd (cc)
-
-    by : Form p.proof p.disproof → (p ≡ won) ⊎ (p ≡ not_won)
-    by (is_won a b) = inl (same_pair p won a b)
-    by (is_not_won a b) = inr (same_pair p not_won a b)
-    by (is_open a b c d) = go (leb top p.proof) (leb top p.disproof) b d refl refl e₀
-
--- the last of the frames has the thresholds `top` and `top`
-abbrev Last : Frame → List Frame → Type 0
-Last f [] = f.thresholds ≡ record { proof = top; disproof = top }
-Last f (g ∷ below) = Last g below
-
-abbrev Holds : {A : Type 0} → Course A → Type 0
-Holds (over (stopped standing)) = Unit {0}
-Holds (over (gave standing left p)) = (p ≡ won) ⊎ (p ≡ not_won)
-Holds (on standing left f below) = Last f below
+    by : Form p.proof p.disproof → Reached tops p → (p ≡ won) ⊎ (p ≡ not_won)
+    by (is_won a b) r = inl (same_pair p won a b)
+    by (is_not_won a b) r = inr (same_pair p not_won a b)
+    by (is_open a b c d) (inl h) = absurd (omega arith)
+    by (is_open a b c d) (inr h) = absurd (omega arith)
 
 module _ (S : Storing) where
-  last_hand : (f g : Frame) (below : List Frame) (ps : List Pair) → Last g below → Last (record { at = g.at; thresholds = g.thresholds; pairs = ps }) below
-  last_hand f g [] ps k = k
-  last_hand f g (g' ∷ below) ps k = k
-
-  holds_turn : (b : Bool) (standing : S.Standing) (left : ℕ) (f : Frame) (below : List Frame) → reached f ≡ b → Last f below → Holds (turn S b standing left f below)
-  holds_turn true standing left f [] e k =
-      formed-decided (pair f) (subst (λ (l : Thresholds). (leb l.proof (pair f).proof || leb l.disproof (pair f).disproof) ≡ true) k e)
-  holds_turn true standing left f (g ∷ below) e k = last_hand f g below (set g.pairs (chosen g) (pair f)) k
-  holds_turn false standing zero f below e k = tt
-  holds_turn false standing (suc left) f below e k = k
-
-  holds_run : (c : Course S.Standing) (o : Outcome S.Standing) → Runs S c o → Holds c → Holds (over o)
-  holds_run c o done h = h
-  holds_run c o (going {standing} {left} {f} {below} r) h = holds_run _ o r (holds_turn (reached f) standing left f below refl h)
-
-  holds_start : (standing : S.Standing) (left : ℕ) (t : Tree) → Holds (start S standing left t)
-  holds_start standing zero t = tt
-  holds_start standing (suc left) t = refl
-
   pub runs_decide_lem : RunsDecide S
-  runs_decide_lem standing left t standing' left' p r = holds_run _ _ r (holds_start standing left t)
+  runs_decide_lem standing standing' left left' t p r = reached_decided p (given_reaches_lem S standing standing' left left' t tops p r)
 
-  decided_verdict : (p : Pair) → (p ≡ won) ⊎ (p ≡ not_won) → (v : Verdict) × (decided p ≡ Some v)
-  decided_verdict p (inl e) = (IsWon, ap decided e)
-  decided_verdict p (inr e) = (IsNotWon, ap decided e)
+  pub decided_value : (p : Pair) → (p ≡ won) ⊎ (p ≡ not_won) → (w : Bool) × (decided p ≡ Some w)
+  decided_value p (inl e) = (true, ap decided e)
+  decided_value p (inr e) = (false, ap decided e)
+
+  -- a verdict with the word of a value
+  verdict_with : (w : Bool) → (v : Verdict) × (word v ≡ value_word w)
+  verdict_with true = (IsWon, refl)
+  verdict_with false = (IsNotWon, refl)
 
   pub trials_end_lem : TrialsEnd S
   trials_end_lem standing t b = go (known (S.shows standing) t) refl
     where
-      search-end : known (S.shows standing) t ≡ None → (standing' : S.Standing) → Runs S (start S standing (half b) t) (stopped standing') → Dec (need t ≤ share b) →
+      search-end : known (S.shows standing) t ≡ None → (standing' : S.Standing) → Enters S standing (half b) t tops (stopped standing') → Dec (need t ≤ share b) →
           (a : Answer) × ((standing' : S.Standing) × Trial S standing t b a standing')
-      search-end e standing' r (yes l) = (_, (_, by_the_search e r l))
-      search-end e standing' r (no l) = (_, (_, spent e r (omega arith)))
+      search-end e standing' r (yes l) = (_, (_, by_the_search e r l (verdict_with (minimax t)).1))
+      search-end e standing' r (no l) = (_, (_, spent {v = IsSpent} e r (omega arith) refl))
 
-      run_end : known (S.shows standing) t ≡ None → (o : Outcome S.Standing) → Runs S (start S standing (half b) t) o →
+      run_end : known (S.shows standing) t ≡ None → (o : Outcome S.Standing) → Enters S standing (half b) t tops o →
           (a : Answer) × ((standing' : S.Standing) × Trial S standing t b a standing')
       run_end e (stopped standing') r = search-end e standing' r (dec_le (need t) (share b))
       run_end e (gave standing' left p) r =
-          let d = decided_verdict p (runs_decide_lem standing (half b) t standing' left p r) in
-          (_, (_, by_the_run e r d.1))
+          let d = decided_value p (runs_decide_lem standing standing' (half b) left t p r) in
+          (_, (_, by_the_run e r d.1 (verdict_with d.0).1))
 
-      go : (o : Option Verdict) → known (S.shows standing) t ≡ o → (a : Answer) × ((standing' : S.Standing) × Trial S standing t b a standing')
-      go (Some v) e = (_, (_, at_once e))
-      go None e = let r = runs_end S (start S standing (half b) t) in run_end e r.0 r.1
+      go : (o : Option Bool) → known (S.shows standing) t ≡ o → (a : Answer) × ((standing' : S.Standing) × Trial S standing t b a standing')
+      go (Some w) e = (_, (_, at_once e (verdict_with w).1))
+      go None e = let r = runs_end S standing (half b) t tops in run_end e r.0 r.1

@@ -1,9 +1,12 @@
 pub mod Laws
 pub mod Numbers
 pub mod Taking
-pub mod Frames
+pub mod Counting
+pub mod Active
+pub mod Soundness
 pub mod Trials
 pub mod Courses
+pub mod Reaching
 pub mod Deciding
 pub mod Evaluating
 pub mod Worked

@@ -7,8 +7,9 @@ use Rattle.game.specs.Tree.{Tree, Moves, none, move, nowhere, state, successors,
 use Rattle.table.specs.declared.pair.Pair.{Pair}
 use Rattle.table.specs.declared.side.Side.TheVariants.{Attacker, Defender}
 use Rattle.table.specs.Numbers.{top, capped, least, first}
-use Rattle.table.specs.Formed.{Form, is_won, is_not_won, is_open, form, capped_low, capped_left, capped_right, capped_cons}
-use Rattle.table.specs.Pairs.{won, not_won, same_pair}
+use Rattle.table.proofs.Formed.{Form, is_won, is_not_won, is_open, form, capped_low, capped_left, capped_right, capped_cons}
+use Rattle.table.proofs.Frames.{same_pair}
+use Rattle.table.specs.Pairs.{won, not_won}
 use Rattle.table.specs.Frames.{owns, againsts}
 use Rattle.search_laws.specs.Claims.{Agrees}
 
@@ -30,17 +31,25 @@ zero-not p e = go (form p.proof p.disproof p.formed)
     go (is_not_won a b) = same_pair p not_won a b
     go (is_open a b c d) = absurd (omega arith)
 
--- a successor's record: it is right, and decided if the successor has ended
-pub record Fits (u : Tree) (p : Pair) : Type 0 where
-  pub agrees : Agrees u p
+-- a successor's record is decided if the successor has ended
+pub record Settled (u : Tree) (p : Pair) : Type 0 where
   pub ended_won : state u ≡ Won → p ≡ won
   pub ended_not : state u ≡ NotWon → p ≡ not_won
 
+-- and it is right
+pub record Fits (u : Tree) (p : Pair) : Type 0 where
+  pub agrees : Agrees u p
+  pub settled : Settled u p
+
+-- successors and their records, one by one
+abbrev pub Each : (Tree → Pair → Type 0) → List Tree → List Pair → Type 0
+Each R [] [] = Unit {0}
+Each R [] (p ∷ ps) = ⊥
+Each R (u ∷ us) [] = ⊥
+Each R (u ∷ us) (p ∷ ps) = R u p × Each R us ps
+
 abbrev pub Fit : List Tree → List Pair → Type 0
-Fit [] [] = Unit {0}
-Fit [] (p ∷ ps) = ⊥
-Fit (u ∷ us) [] = ⊥
-Fit (u ∷ us) (p ∷ ps) = Fits u p × Fit us ps
+Fit us ps = Each Fits us ps
 
 min-zero : (a b : ℕ) → min a b ≡ 0 → (a ≡ 0) ⊎ (b ≡ 0)
 min-zero zero b e = inl refl
@@ -124,22 +133,30 @@ capped-top (n ∷ ns) zero d h e = capped_cons n ns ∙ capped_left n (capped ns
 capped-top (n ∷ ns) (suc i) d h e = capped_cons n ns ∙ capped_right n (capped ns) (capped-top ns i d (omega arith) e)
 
 -- records by number
-pub fit_length : (us : List Tree) (ps : List Pair) → Fit us ps → length us ≡ length ps
-fit_length [] [] f = refl
-fit_length [] (p ∷ ps) f = elim f [ ]
-fit_length (u ∷ us) [] f = elim f [ ]
-fit_length (u ∷ us) (p ∷ ps) f = ap suc (fit_length us ps f.1)
 
-pub fit_at : (us : List Tree) (ps : List Pair) → Fit us ps → (i : ℕ) (d : Pair) → i < length us → Fits (get_or us i nowhere) (get_or ps i d)
-fit_at [] [] f i d h = absurd (omega arith)
-fit_at [] (p ∷ ps) f i d h = elim f [ ]
-fit_at (u ∷ us) [] f i d h = elim f [ ]
-fit_at (u ∷ us) (p ∷ ps) f zero d h = f.0
-fit_at (u ∷ us) (p ∷ ps) f (suc i) d h = fit_at us ps f.1 i d (omega arith)
+module _ (R : Tree → Pair → Type 0) where
+  pub each_length : (us : List Tree) (ps : List Pair) → Each R us ps → length us ≡ length ps
+  each_length [] [] f = refl
+  each_length [] (p ∷ ps) f = elim f [ ]
+  each_length (u ∷ us) [] f = elim f [ ]
+  each_length (u ∷ us) (p ∷ ps) f = ap suc (each_length us ps f.1)
 
-pub fit-set : (us : List Tree) (ps : List Pair) → Fit us ps → (i : ℕ) (p : Pair) → Fits (get_or us i nowhere) p → Fit us (set ps i p)
-fit-set [] [] f i q g = tt
-fit-set [] (p ∷ ps) f i q g = elim f [ ]
-fit-set (u ∷ us) [] f i q g = elim f [ ]
-fit-set (u ∷ us) (p ∷ ps) f zero q g = (g, f.1)
-fit-set (u ∷ us) (p ∷ ps) f (suc i) q g = (f.0, fit-set us ps f.1 i q g)
+  pub each_at : (us : List Tree) (ps : List Pair) → Each R us ps → (i : ℕ) (d : Pair) → i < length us → R (get_or us i nowhere) (get_or ps i d)
+  each_at [] [] f i d h = absurd (omega arith)
+  each_at [] (p ∷ ps) f i d h = elim f [ ]
+  each_at (u ∷ us) [] f i d h = elim f [ ]
+  each_at (u ∷ us) (p ∷ ps) f zero d h = f.0
+  each_at (u ∷ us) (p ∷ ps) f (suc i) d h = each_at us ps f.1 i d (omega arith)
+
+  pub each_set : (us : List Tree) (ps : List Pair) → Each R us ps → (i : ℕ) (p : Pair) → R (get_or us i nowhere) p → Each R us (set ps i p)
+  each_set [] [] f i q g = tt
+  each_set [] (p ∷ ps) f i q g = elim f [ ]
+  each_set (u ∷ us) [] f i q g = elim f [ ]
+  each_set (u ∷ us) (p ∷ ps) f zero q g = (g, f.1)
+  each_set (u ∷ us) (p ∷ ps) f (suc i) q g = (f.0, each_set us ps f.1 i q g)
+
+pub settled_each : (us : List Tree) (ps : List Pair) → Fit us ps → Each Settled us ps
+settled_each [] [] f = tt
+settled_each [] (p ∷ ps) f = elim f [ ]
+settled_each (u ∷ us) [] f = elim f [ ]
+settled_each (u ∷ us) (p ∷ ps) f = (f.0.settled, settled_each us ps f.1)

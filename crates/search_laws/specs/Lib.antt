@@ -1,4 +1,5 @@
 pub mod Run
+pub mod Entered
 pub mod Trial
 pub mod Claims
 pub mod Calls

@@ -1,5 +1,5 @@
--- The proof-number run: what a frame is, what it does next, and how a run ends.
-use Rattle.std.specs.Prelude.{ℕ, zero, suc, ◌+◌, ◌-◌, min, Bool, true, false, cond, ◌||◌, List, [], ◌∷◌, map, Some, None, Option, ◌==◌, nat_le, slice_index_or, slice_set}
+-- The rules of the proof-number run: what comes of entering a position, and of a frame's work on its successors' pairs.
+use Rattle.std.specs.Prelude.{ℕ, suc, ◌+◌, ◌-◌, ◌<◌, ◌≤◌, min, cond, ◌⊎◌, List, map, Some, None, Option, ◌==◌, slice_index_or, slice_set}
 use Rattle.game.specs.declared.state.State.{State}
 use Rattle.game.specs.declared.state.State.TheVariants.{Won, NotWon, Attacker, Defender}
 use Rattle.game.specs.Tree.{Tree, nowhere, state, code, next}
@@ -8,7 +8,7 @@ use Rattle.table.specs.declared.side.Side.{Side}
 use Rattle.table.specs.declared.side.Side.TheVariants.{Attacker as Attacks, Defender as Defends}
 use Rattle.table.specs.Numbers.{top, capped, least, others}
 use Rattle.table.specs.Pairs.{Shown, won, not_won, fresh}
-use Rattle.table.specs.Frames.{owns, againsts, chosen_at, pair_at}
+use Rattle.table.specs.Frames.{owns, againsts, chosen_at, FramePair}
 use Rattle.table.specs.Storings.{Storing}
 use Rattle.search_laws.specs.declared.thresholds.Thresholds.{Thresholds}
 
@@ -19,30 +19,38 @@ mover NotWon = Attacks
 mover Attacker = Attacks
 mover Defender = Defends
 
--- A frame: its position, which has not ended, its two thresholds, and its successors' pairs in move order.
-pub record Frame : Type 0 where
-  pub at : Tree
-  pub thresholds : Thresholds
-  pub pairs : List Pair
+-- a successor's pair when a frame lists it: decided if it has ended, else the table's, else (1, 1)
+abbrev pub or_fresh : Option Pair → Pair
+or_fresh (Some p) = p
+or_fresh None = fresh
 
--- Its own pair: with the attacker to move the least of the successors' proof numbers and the capped sum of their disproof numbers, and
--- with the defender to move the same with the two words exchanged, as everywhere below.
-abbrev pub pair : Frame → Pair
-pair f = pair_at (mover (state f.at)) f.pairs
+abbrev pub listed_as : State → Option Pair → Pair
+listed_as Won o = won
+listed_as NotWon o = not_won
+listed_as Attacker o = or_fresh o
+listed_as Defender o = or_fresh o
 
--- whether one of its numbers has reached its threshold
-abbrev pub reached_at : Thresholds → Pair → Bool
-reached_at l p = nat_le l.proof p.proof || nat_le l.disproof p.disproof
+abbrev pub listed : Shown → Tree → Pair
+listed shown t = listed_as (state t) (shown (code t))
 
-abbrev pub reached : Frame → Bool
-reached f = reached_at f.thresholds (pair f)
+-- A frame's own pair, by its successors' pairs: with the attacker to move the least of their proof numbers and the capped sum of their
+-- disproof numbers. With the defender to move the two words are exchanged, here and in all that follows.
+abbrev pub OwnPair : Tree → List Pair → Pair → Type 0
+OwnPair t ps p = FramePair (mover (state t)) ps p
 
--- the number of the successor that it takes: the first of least proof number
-abbrev pub chosen : Frame → ℕ
-chosen f = chosen_at (mover (state f.at)) f.pairs
+-- a number of a pair has reached its threshold; neither has
+abbrev pub Reached : Thresholds → Pair → Type 0
+Reached l p = (l.proof ≤ p.proof) ⊎ (l.disproof ≤ p.disproof)
 
-abbrev pub taken : Frame → Tree
-taken f = slice_index_or (next f.at) (chosen f) nowhere
+abbrev pub Below : Thresholds → Pair → Type 0
+Below l p = (p.proof < l.proof) × (p.disproof < l.disproof)
+
+-- the number of the successor that a frame takes, the first of least proof number, and the position that it leads to
+abbrev pub chosen : Tree → List Pair → ℕ
+chosen t ps = chosen_at (mover (state t)) ps
+
+abbrev pub taken : Tree → List Pair → Tree
+taken t ps = slice_index_or (next t) (chosen t ps) nowhere
 
 -- thresholds as the side to move sees them
 abbrev pub turned : Side → Thresholds → Thresholds
@@ -61,58 +69,39 @@ abbrev pub thresholds_at : Side → Thresholds → List Pair → Thresholds
 thresholds_at s l ps =
     turned s (handed_down (turned s l) (least (others (chosen_at s ps) (owns s ps))) (capped (others (chosen_at s ps) (againsts s ps))))
 
-abbrev pub thresholds_below : Frame → Thresholds
-thresholds_below f = thresholds_at (mover (state f.at)) f.thresholds f.pairs
+abbrev pub taken_thresholds : Tree → Thresholds → List Pair → Thresholds
+taken_thresholds t l ps = thresholds_at (mover (state t)) l ps
 
--- a successor's pair when its frame is entered: decided if it has ended, else the table's, else (1, 1)
-abbrev pub or_fresh : Option Pair → Pair
-or_fresh (Some p) = p
-or_fresh None = fresh
+-- the pairs with a new one for the successor that is taken
+abbrev pub replaced : Tree → List Pair → Pair → List Pair
+replaced t ps q = slice_set ps (chosen t ps) q
 
-abbrev pub listed_as : State → Option Pair → Pair
-listed_as Won o = won
-listed_as NotWon o = not_won
-listed_as Attacker o = or_fresh o
-listed_as Defender o = or_fresh o
-
-abbrev pub listed : Shown → Tree → Pair
-listed shown t = listed_as (state t) (shown (code t))
-
--- How a run ends: stopped undecided, or the start position's frame has given its pair; with where the table then stands, and the expansions left.
+-- What a run comes to: it is stopped undecided, or has given a pair; with where the table then stands, and the expansions left.
 pub data Outcome (A : Type 0) : Type 0 where
   stopped : A → Outcome A
   gave : A → ℕ → Pair → Outcome A
 
--- A run: over, or going on with where the table stands, the expansions left, the frame at work, and the frames below it, the nearest first.
-pub data Course (A : Type 0) : Type 0 where
-  over : Outcome A → Course A
-  on : A → ℕ → Frame → List Frame → Course A
+mutual
+  -- A position is entered with two thresholds, from where the table stands and with so many expansions left. With none left the run stops.
+  -- Else one is counted, the successors' pairs are listed in move order, and the frame works on them.
+  pub data Enters (S : Storing) : S.Standing → ℕ → Tree → Thresholds → Outcome S.Standing → Type 0 where
+    none_left : {standing : S.Standing} {t : Tree} {l : Thresholds} → Enters S standing 0 t l (stopped standing)
+    counted : {standing : S.Standing} {left : ℕ} {t : Tree} {l : Thresholds} {o : Outcome S.Standing} →
+        Works S standing left t l (map (listed (S.shows standing)) (next t)) o → Enters S standing (suc left) t l o
 
--- A frame is to be entered: it costs an expansion, and where none is left the run stops.
-abbrev pub enter : (S : Storing) → S.Standing → ℕ → Tree → Thresholds → List Frame → Course S.Standing
-enter S standing zero t l below = over (stopped standing)
-enter S standing (suc left) t l below = on standing left (record { at = t; thresholds = l; pairs = map (listed (S.shows standing)) (next t) }) below
+  -- A frame works. With a number of its pair at its threshold it stores the pair by code and gives it. Else it enters the successor that it
+  -- takes. Where the run stops there, it stops; where that gives a pair, this replaces the successor's, and the frame works on.
+  pub data Works (S : Storing) : S.Standing → ℕ → Tree → Thresholds → List Pair → Outcome S.Standing → Type 0 where
+    gives : {standing : S.Standing} {left : ℕ} {t : Tree} {l : Thresholds} {ps : List Pair} {p : Pair} → OwnPair t ps p → Reached l p →
+        Works S standing left t l ps (gave (S.stored standing (code t) p) left p)
+    stops : {standing standing' : S.Standing} {left : ℕ} {t : Tree} {l : Thresholds} {ps : List Pair} {p : Pair} → OwnPair t ps p → Below l p →
+        Enters S standing left (taken t ps) (taken_thresholds t l ps) (stopped standing') →
+        Works S standing left t l ps (stopped standing')
+    works_on : {standing standing' : S.Standing} {left left' : ℕ} {t : Tree} {l : Thresholds} {ps : List Pair} {p q : Pair} {o : Outcome S.Standing} →
+        OwnPair t ps p → Below l p →
+        Enters S standing left (taken t ps) (taken_thresholds t l ps) (gave standing' left' q) →
+        Works S standing' left' t l (replaced t ps q) o → Works S standing left t l ps o
 
--- A frame's pair is handed to the frame below, which replaces its record of that successor.
-abbrev pub hand : {A : Type 0} → A → ℕ → Pair → List Frame → Course A
-hand standing left p [] = over (gave standing left p)
-hand standing left p (f ∷ below) =
-    on standing left (record { at = f.at; thresholds = f.thresholds; pairs = slice_set f.pairs (chosen f) p }) below
-
--- What the frame at work does: with a threshold reached it stores its pair by code and hands it on, else it takes a successor.
-abbrev pub turn : (S : Storing) → Bool → S.Standing → ℕ → Frame → List Frame → Course S.Standing
-turn S true standing left f below = hand (S.stored standing (code f.at) (pair f)) left (pair f) below
-turn S false standing left f below = enter S standing left (taken f) (thresholds_below f) (f ∷ below)
-
-abbrev pub step : (S : Storing) → S.Standing → ℕ → Frame → List Frame → Course S.Standing
-step S standing left f below = turn S (reached f) standing left f below
-
--- the outcome of a run
-pub data Runs (S : Storing) : Course S.Standing → Outcome S.Standing → Type 0 where
-  done : {o : Outcome S.Standing} → Runs S (over o) o
-  going : {standing : S.Standing} {left : ℕ} {f : Frame} {below : List Frame} {o : Outcome S.Standing} →
-      Runs S (step S standing left f below) o → Runs S (on standing left f below) o
-
--- a run on a position: its frame has the thresholds `top` and `top`, and no frame below it
-abbrev pub start : (S : Storing) → S.Standing → ℕ → Tree → Course S.Standing
-start S standing left t = enter S standing left t (record { proof = top; disproof = top }) []
+-- the thresholds of a run
+abbrev pub tops : Thresholds
+tops = record { proof = top; disproof = top }

@@ -1,5 +1,5 @@
 -- A trial: what is known already, then a proof-number run with half of the budget, then a plain search with the rest.
-use Rattle.std.specs.Prelude.{◌≡◌, ℕ, suc, ◌+◌, ◌-◌, ◌/◌, ◌<◌, ◌≤◌, Bool, true, false, cond, ◌&&◌, Some, None, Option, ◌==◌}
+use Rattle.std.specs.Prelude.{◌≡◌, ℕ, suc, ◌+◌, ◌-◌, ◌/◌, ◌<◌, ◌≤◌, Bool, true, false, cond, ◌&&◌, Some, None, Option, codes, ◌==◌}
 use Rattle.game.specs.declared.state.State.{State}
 use Rattle.game.specs.declared.state.State.TheVariants.{Won, NotWon, Attacker, Defender}
 use Rattle.game.specs.Tree.{Tree, Moves, node, none, move, state, code, minimax}
@@ -7,38 +7,34 @@ use Rattle.table.specs.declared.pair.Pair.{Pair}
 use Rattle.table.specs.Pairs.{Shown, won, not_won}
 use Rattle.table.specs.Storings.{Storing}
 use Rattle.search_laws.specs.declared.answer.Verdict.{Verdict}
-use Rattle.search_laws.specs.declared.answer.Verdict.TheVariants.{Won as IsWon, NotWon as IsNotWon, Spent as IsSpent}
 use Rattle.search_laws.specs.declared.answer.Answer.{Answer}
-use Rattle.search_laws.specs.Run.{stopped, gave, Runs, start}
+use Rattle.search_laws.specs.Run.{stopped, gave, Enters, tops}
+use Rattle.search_laws.specs.Words.{word, value_word}
 
--- a value as a verdict and as a pair
-abbrev pub verdict_of : Bool → Verdict
-verdict_of true = IsWon
-verdict_of false = IsNotWon
-
+-- the pair of a value
 abbrev pub pair_of : Bool → Pair
 pair_of true = won
 pair_of false = not_won
 
--- the verdict of a decided pair
+-- the value of a decided pair
 abbrev pub same : Pair → Pair → Bool
 same p q = p.proof == q.proof && p.disproof == q.disproof
 
-abbrev pub decided : Pair → Option Verdict
-decided p = cond (same p won) (Some IsWon) (cond (same p not_won) (Some IsNotWon) None)
+abbrev pub decided : Pair → Option Bool
+decided p = cond (same p won) (Some true) (cond (same p not_won) (Some false) None)
 
-abbrev pub decided_in : Option Pair → Option Verdict
+abbrev pub decided_in : Option Pair → Option Bool
 decided_in (Some p) = decided p
 decided_in None = None
 
--- the verdict that needs no search: of an ended position, or one whose decided pair the table shows
-abbrev pub known_as : State → Option Pair → Option Verdict
-known_as Won o = Some IsWon
-known_as NotWon o = Some IsNotWon
+-- the value that needs no search: of an ended position, or one whose decided pair the table shows
+abbrev pub known_as : State → Option Pair → Option Bool
+known_as Won o = Some true
+known_as NotWon o = Some false
 known_as Attacker o = decided_in o
 known_as Defender o = decided_in o
 
-abbrev pub known : Shown → Tree → Option Verdict
+abbrev pub known : Shown → Tree → Option Bool
 known shown t = known_as (state t) (shown (code t))
 
 -- The entries that the plain search needs: none if the position has ended, else 1 and what the successors need, in move order, up to
@@ -64,17 +60,18 @@ half b = b / 2
 abbrev pub share : ℕ → ℕ
 share b = b - b / 2
 
--- A trial on a position, from where a table stands, with a budget: its answer, and where the table then stands.
+-- A trial on a position, from where a table stands, with a budget: its answer, whose verdict is known by its word, and where the table then
+-- stands.
 pub data Trial (S : Storing) (standing : S.Standing) (t : Tree) (b : ℕ) : Answer → S.Standing → Type 0 where
-  at_once : {v : Verdict} → known (S.shows standing) t ≡ Some v →
+  at_once : {v : Verdict} {w : Bool} → known (S.shows standing) t ≡ Some w → word v ≡ value_word w →
       Trial S standing t b (record { verdict = v; expansions = 0; entries = 0 }) standing
-  by_the_run : {v : Verdict} {standing' : S.Standing} {left : ℕ} {p : Pair} → known (S.shows standing) t ≡ None →
-      Runs S (start S standing (half b) t) (gave standing' left p) → decided p ≡ Some v →
+  by_the_run : {v : Verdict} {w : Bool} {standing' : S.Standing} {left : ℕ} {p : Pair} → known (S.shows standing) t ≡ None →
+      Enters S standing (half b) t tops (gave standing' left p) → decided p ≡ Some w → word v ≡ value_word w →
       Trial S standing t b (record { verdict = v; expansions = half b - left; entries = 0 }) standing'
-  by_the_search : {standing' : S.Standing} → known (S.shows standing) t ≡ None →
-      Runs S (start S standing (half b) t) (stopped standing') → need t ≤ share b →
-      Trial S standing t b (record { verdict = verdict_of (minimax t); expansions = half b; entries = need t })
+  by_the_search : {v : Verdict} {standing' : S.Standing} → known (S.shows standing) t ≡ None →
+      Enters S standing (half b) t tops (stopped standing') → need t ≤ share b → word v ≡ value_word (minimax t) →
+      Trial S standing t b (record { verdict = v; expansions = half b; entries = need t })
       (S.stored standing' (code t) (pair_of (minimax t)))
-  spent : {standing' : S.Standing} → known (S.shows standing) t ≡ None →
-      Runs S (start S standing (half b) t) (stopped standing') → share b < need t →
-      Trial S standing t b (record { verdict = IsSpent; expansions = half b; entries = share b }) standing'
+  spent : {v : Verdict} {standing' : S.Standing} → known (S.shows standing) t ≡ None →
+      Enters S standing (half b) t tops (stopped standing') → share b < need t → word v ≡ codes "spent" →
+      Trial S standing t b (record { verdict = v; expansions = half b; entries = share b }) standing'

@@ -1,6 +1,5 @@
 ghost use Rattle.std.specs.Prelude.{◌≡◌, Some};
-ghost use Rattle.search_laws.specs.Trial.{verdict_of};
-ghost use Rattle.search_laws.specs.Words.{word};
+ghost use Rattle.search_laws.specs.Words.{word, value_word};
 
 use std::fmt;
 
@@ -18,7 +17,7 @@ pub enum Verdict {
 impl Verdict {
     /// The verdict of a value: `Won` for true, `NotWon` for false.
     pub fn of(value: bool) -> Verdict
-        ensures { result ≡ verdict_of value }
+        ensures { word result ≡ value_word value }
     {
         if value { Verdict::Won } else { Verdict::NotWon }
     }

@@ -1,1 +1,3 @@
+pub mod Formed
+pub mod Frames
 pub mod Passes

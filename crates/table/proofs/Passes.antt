@@ -8,9 +8,10 @@ use Rattle.table.specs.declared.side.Side.{Side}
 use Rattle.table.specs.declared.side.Side.TheVariants.{Attacker, Defender}
 use Rattle.table.specs.declared.figures.Tally.{Tally}
 use Rattle.table.specs.Numbers.{top, some_top, capped, least, first, others}
-use Rattle.table.specs.Formed.{Form, is_won, is_not_won, is_open, form}
+use Rattle.table.proofs.Formed.{Form, is_won, is_not_won, is_open, form}
 use Rattle.table.specs.Pairs.{own, against}
-use Rattle.table.specs.Frames.{owns, againsts, chosen_at, pair_at, Tallied}
+use Rattle.table.specs.Frames.{owns, againsts, chosen_at, Tallied}
+use Rattle.table.proofs.Frames.{pair_at}
 
 pub least_push : (ns : List ℕ) (n : ℕ) → least (ns ++ (n ∷ [])) ≡ min (least ns) n
 least_push [] n = omega arith

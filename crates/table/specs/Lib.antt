@@ -1,5 +1,4 @@
 pub mod Numbers
-pub mod Formed
 pub mod Pairs
 pub mod Frames
 pub mod Storings

@@ -1,12 +1,9 @@
 -- Pairs as the side to move sees them, and what a table shows.
-use Rattle.std.specs.Prelude.{◌≡◌, ℕ, T, List, None, Option}
-use mathlib.Core.HLevel.{is_prop→PathP}
-use Rattle.std.proofs.Math.Dec.{T_prop}
+use Rattle.std.specs.Prelude.{ℕ, List, None, Option}
 use Rattle.table.specs.declared.pair.Pair.{Pair}
 use Rattle.table.specs.declared.side.Side.{Side}
 use Rattle.table.specs.declared.side.Side.TheVariants.{Attacker, Defender}
-use Rattle.table.specs.Numbers.{top, well}
-use Rattle.table.specs.Formed.{exchanged}
+use Rattle.table.specs.Numbers.{top}
 
 abbrev pub won : Pair
 won = record { proof = 0; disproof = top; formed = tt }
@@ -31,11 +28,6 @@ abbrev pub against : Side → Pair → ℕ
 against Attacker p = p.disproof
 against Defender p = p.proof
 
--- the pair that has these two numbers
-abbrev pub facing : Side → (n k : ℕ) → T (well n k) → Pair
-facing Attacker n k f = record { proof = n; disproof = k; formed = f }
-facing Defender n k f = record { proof = k; disproof = n; formed = exchanged n k f }
-
 -- a code is five words
 abbrev pub Code : Type 0
 Code = List ℕ
@@ -47,11 +39,3 @@ Shown = Code → Option Pair
 -- nothing is shown
 abbrev pub nothing : Shown
 nothing c = None
-
--- two pairs are equal if their numbers are
-pub same_pair : (p q : Pair) → p.proof ≡ q.proof → p.disproof ≡ q.disproof → p ≡ q
-same_pair p q a b = λ i. record {
-  proof = a i;
-  disproof = b i;
-  formed = is_prop→PathP (λ j. T (well (a j) (b j))) (λ j. T_prop (well (a j) (b j))) p.formed q.formed i;
-}

@@ -1,5 +1,5 @@
 use Rattle.search_laws.proofs.Laws.{ranging}
-use Rattle.search_laws.proofs.Frames.{runs_are_right}
+use Rattle.search_laws.proofs.Soundness.{runs_are_right}
 use Rattle.search_laws.proofs.Trials.{trials_are_right_lem}
 use Rattle.search_laws.proofs.trials_are_right.Goals as goal
 

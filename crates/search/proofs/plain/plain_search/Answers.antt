@@ -3,7 +3,7 @@ use Rattle.game.specs.Tree.{Tree}
 use Rattle.stack.specs.Contents.{contents}
 use Rattle.search.specs.declared.entry.Turn.TheVariants.{Look, Try, Back}
 use Rattle.search.specs.Search.{wins}
-use Rattle.search.proofs.Turns.{wins_by, leads-back, search_started, turned, at-look, search_ended}
+use Rattle.search.proofs.Turns.{wins_by, leads-back, leads_long, try_asks, back_asks, search_started, turned, at-look, search_ended}
 use Rattle.search.proofs.plain.plain_search.Goals as goal
 
 pub loop-turn-init : goal.loop-turn-init
@@ -13,6 +13,21 @@ loop-turn-init g c =
       c.new-stack.ensures.room,
       omega arith,
     )
+
+pub take_all_back-requires : goal.take_all_back-requires
+take_all_back-requires g c =
+    let t₀ : Tree = g.G.Game.current c.args.game.now in
+    leads_long (contents c.loop-turn.stack) _ _ t₀ _ (at-look c.loop-turn.turn (contents c.loop-turn.stack) _ _ _ t₀ _ c.in-Look.is c.loop-turn.invariant.0).1
+
+pub try_next-turn-requires-clause-count : goal.try_next-turn-requires-clause-count
+try_next-turn-requires-clause-count g c = (try_asks c.loop-turn.turn c.in-Try.entry _ _ _ _ _ _ c.in-Try.is c.loop-turn.invariant.0).0
+
+pub try_next-turn-requires-clause-places : goal.try_next-turn-requires-clause-places
+try_next-turn-requires-clause-places g c = (try_asks c.loop-turn.turn c.in-Try.entry _ _ _ _ _ _ c.in-Try.is c.loop-turn.invariant.0).1
+
+pub come_back-requires : goal.come_back-requires
+come_back-requires g c =
+    back_asks c.loop-turn.turn c.in-Back.winner c.in-Some-pop.entry _ _ _ _ _ _ _ c.in-Back.is c.in-Some-pop.ensures.popped c.loop-turn.invariant.0
 
 pub returns-in-None : goal.returns-in-None
 returns-in-None g c =

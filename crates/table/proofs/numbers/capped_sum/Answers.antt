@@ -1,5 +1,5 @@
 use Rattle.std.proofs.Common.{sym, ⊎_elim, arith}
-use Rattle.table.specs.Formed.{capped_low, capped_left, capped_right}
+use Rattle.table.proofs.Formed.{capped_low, capped_left, capped_right}
 use Rattle.table.proofs.numbers.capped_sum.Goals as goal
 
 pub returns-then-a-eq-TOP : goal.returns-then-a-eq-TOP

@@ -1,6 +1,6 @@
 use Rattle.std.proofs.Common.{ℕ, T, sym, refl, subst₂, inl, inr}
 use Rattle.table.specs.Numbers.{well}
-use Rattle.table.specs.Frames.{pair_at}
+use Rattle.table.proofs.Frames.{pair_at}
 use Rattle.table.proofs.Passes.{tallied_none, tallied_all, pair-numbers}
 use Rattle.table.proofs.figures.Figures.of.Goals as goal
 use Rattle.table.proofs.figures.Figures.of.Goals.{in-Attacker, in-Defender}

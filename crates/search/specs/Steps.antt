@@ -9,28 +9,41 @@ use Rattle.table.specs.Frames.{chosen_at}
 use Rattle.search.specs.declared.frame.Frame.{Frame as Kept}
 use Rattle.search.specs.declared.frame.Step.{Step}
 use Rattle.search.specs.declared.frame.Step.TheVariants.{Enter, Work, Back}
-use Rattle.search_laws.specs.Run.{mover, Frame, Outcome, Course, on, enter, hand, Runs}
+use Rattle.search_laws.specs.declared.thresholds.Thresholds.{Thresholds}
+use Rattle.search_laws.specs.Run.{mover, replaced, Outcome, stopped, gave, Enters, Works}
 use Rattle.table.specs.Storings.{Storing}
 
 -- a frame's successors' pairs: its part of the records
 abbrev pub part : Kept → List Pair → List Pair
 part e rs = between e.base e.end rs
 
--- the frame that an entry of the stack stands for, with its position
-abbrev pub framed : Kept → Tree → List Pair → Frame
-framed e t rs = record { at = t; thresholds = e.thresholds; pairs = part e rs }
+-- a frame that waits for the pair of the successor that it has taken: its position, its thresholds and its successors' pairs
+pub record Waiting : Type 0 where
+  pub at : Tree
+  pub thresholds : Thresholds
+  pub pairs : List Pair
 
--- the frames of the positions before the current one
-unfoldable pub frames : List Kept → List Tree → List Pair → List Frame
-frames [] ts rs = []
-frames (e ∷ es) [] rs = []
-frames (e ∷ es) (t ∷ ts) rs = framed e t rs ∷ frames es ts rs
+-- the one that an entry of the stack stands for, with its position
+abbrev pub waiting_frame : Kept → Tree → List Pair → Waiting
+waiting_frame e t rs = record { at = t; thresholds = e.thresholds; pairs = part e rs }
 
--- where the run stands
-unfoldable pub course : (S : Storing) → Step → List Kept → Tree → List Tree → List Pair → S.Standing → ℕ → Course S.Standing
-course S (Enter l) es t ts rs h n = enter S h n t l (frames es ts rs)
-course S (Work e) es t ts rs h n = on h n (framed e t rs) (frames es ts rs)
-course S (Back p) es t ts rs h n = hand h n p (frames es ts rs)
+-- the frames that wait, of the positions before the current one
+unfoldable pub waiting_frames : List Kept → List Tree → List Pair → List Waiting
+waiting_frames [] ts rs = []
+waiting_frames (e ∷ es) [] rs = []
+waiting_frames (e ∷ es) (t ∷ ts) rs = waiting_frame e t rs ∷ waiting_frames es ts rs
+
+-- what the run comes to once a frame has come to an outcome: through the frames below it, each of which waits for its successor's pair
+unfoldable pub Through : (S : Storing) → List Waiting → Outcome S.Standing → Outcome S.Standing → Type 0
+Through S fs (stopped h) o = stopped h ≡ o
+Through S [] (gave h n p) o = gave h n p ≡ o
+Through S (f ∷ fs) (gave h n p) o = (o' : Outcome S.Standing) × Works S h n f.at f.thresholds (replaced f.at f.pairs p) o' × Through S fs o' o
+
+-- what the run comes to from where it stands
+unfoldable pub Comes : (S : Storing) → Step → List Kept → Tree → List Tree → List Pair → S.Standing → ℕ → Outcome S.Standing → Type 0
+Comes S (Enter l) es t ts rs h n o = (o' : Outcome S.Standing) × Enters S h n t l o' × Through S (waiting_frames es ts rs) o' o
+Comes S (Work e) es t ts rs h n o = (o' : Outcome S.Standing) × Works S h n t e.thresholds (part e rs) o' × Through S (waiting_frames es ts rs) o' o
+Comes S (Back p) es t ts rs h n o = Through S (waiting_frames es ts rs) (gave h n p) o
 
 -- the first record that no frame has
 abbrev pub free : List Kept → ℕ
@@ -72,11 +85,11 @@ work (Enter l) es n = 2 * length es + 4 * n
 work (Work e) es n = 3 + 2 * length es + 4 * n
 work (Back p) es n = 2 + 2 * length es + 4 * n
 
--- A step of the program, from any start: all still fits, the run from there is the rest of the run from here, and less is left to do.
+-- A step of the program, from any start: all still fits, the run from here comes to what it comes to from there, and less is left to do.
 unfoldable pub Goes : (S : Storing) → ℕ → Step → List Kept → Tree → List Tree → List Pair → S.Standing → ℕ
     → Step → List Kept → Tree → List Tree → List Pair → S.Standing → ℕ → Type 0
 Goes S w s es t ts rs h n s' es' t' ts' rs' h' n' =
     (t₀ : Tree) (ts₀ : List Tree) → Stands w s es t ts rs t₀ ts₀
     → Stands w s' es' t' ts' rs' t₀ ts₀
-    × ((o : Outcome S.Standing) → Runs S (course S s' es' t' ts' rs' h' n') o → Runs S (course S s es t ts rs h n) o)
+    × ((o : Outcome S.Standing) → Comes S s' es' t' ts' rs' h' n' o → Comes S s es t ts rs h n o)
     × (work s' es' n' < work s es n)

@@ -1,37 +1,23 @@
 -- Trials of all moves, one after another.
-use Rattle.std.proofs.Common.{◌≡◌, ℕ, zero, suc, ◌+◌, ◌*◌, ◌<◌, ◌≤◌, Bool, true, false, List, [], ◌∷◌, ◌++◌, length, get_or, Ok, Err, Some, None, Option, sym, refl, ap, ◌∙◌, subst, append_assoc, append-nil, suc-mul, Result, arith}
+use Rattle.std.proofs.Common.{◌≡◌, ℕ, zero, suc, ◌+◌, ◌*◌, ◌<◌, ◌≤◌, Bool, true, false, List, [], ◌∷◌, ◌++◌, length, get_or, Ok, Err, Some, None, Option, sym, refl, ap, ◌∙◌, subst, append_assoc, append-nil, suc-mul, Result, codes, arith}
 use Rattle.std.proofs.lemmas.List.{length_push}
 use Rattle.std.proofs.ByRecursion.{All-get_or}
 use Rattle.game.specs.Rules.{Rules}
 use Rattle.game.specs.Tree.{Tree, Moves, none, move, nowhere, successors, texts, Reading, next, rank}
 use Rattle.search_laws.specs.Calls.{budget_limit}
 use Rattle.search.specs.declared.budget.Budget.{Budget}
-use Rattle.search_laws.specs.declared.answer.Verdict.{Verdict}
-use Rattle.search_laws.specs.declared.answer.Verdict.TheVariants as verdict
 use Rattle.search_laws.specs.declared.answer.Answer.{Answer}
 use Rattle.table.specs.Storings.{Storing}
-use Rattle.search_laws.specs.Trial.{Trial, at_once, by_the_run, by_the_search, verdict_of}
+use Rattle.search_laws.specs.Trial.{Trial, at_once, by_the_run, by_the_search}
 use Rattle.search_laws.specs.Trial as trial
+use Rattle.search_laws.specs.Words.{word, value_word}
 use Rattle.solution_laws.specs.Solution.{AllTried, no_more, tried, Stops, spent, later, cost, first_win, onward}
 use Rattle.solution.specs.declared.stop.Stop.{Stop}
-use Rattle.solution.specs.declared.stop.Stop.TheVariants.{Spent}
-use Rattle.solution.specs.Attempts.{value_of, Adds, Attempted}
+use Rattle.solution.specs.Stops.{stop_word}
+use Rattle.solution.specs.Attempts.{Adds, Attempted}
 use Rattle.std.specs.Result.{IsErrAnd}
 use Rattle.std.specs.List.{position, position_from}
 use Rattle.std.proofs.lemmas.Iterator.Adapters.{position_from-zero}
-use Rattle.solution_laws.proofs.Clash.{clash}
-
-pub value-won : (v : Verdict) (w : Bool) → value_of v ≡ Ok w → v ≡ verdict_of w
-value-won verdict.Won true e = refl
-value-won verdict.Won false e = clash (cc)
-value-won verdict.NotWon true e = clash (cc)
-value-won verdict.NotWon false e = refl
-value-won verdict.Spent w e = clash (cc)
-
-pub value-spent : (v : Verdict) (stop : Stop) → value_of v ≡ Err stop → (v ≡ verdict.Spent) × (stop ≡ Spent)
-value-spent verdict.Won stop e = clash (cc)
-value-spent verdict.NotWon stop e = clash (cc)
-value-spent verdict.Spent stop e = (refl, (cc))
 
 few-moves : (n r depth width : ℕ) → n ≤ width → r ≤ depth → depth * width ≤ 6144 → (0 < n → 0 < r) → n ≤ 6144
 few-moves zero r depth width a b c d = omega arith
@@ -47,10 +33,10 @@ few {depth = depth} {width = width} rules t p =
 
 -- a trial costs no more than its budget
 affordable : {S : Storing} {standing : S.Standing} {t : Tree} {b : ℕ} {a : Answer} {standing' : S.Standing} → Trial S standing t b a standing' → cost a ≤ b
-affordable (at_once k) = omega arith
-affordable {b = b} (by_the_run k r d) = omega arith
-affordable {b = b} (by_the_search k r n) = omega arith
-affordable {b = b} (trial.spent k r n) = omega arith
+affordable (at_once k v) = omega arith
+affordable {b = b} (by_the_run k r d v) = omega arith
+affordable {b = b} (by_the_search k r n v) = omega arith
+affordable {b = b} (trial.spent k r n v) = omega arith
 
 -- the moves from number i on
 unfoldable pub beyond : ℕ → Moves → Moves
@@ -95,7 +81,7 @@ module _ (S : Storing) (b : ℕ) (standing : S.Standing) (m : Moves) (n : ℕ) w
 
   module _ (i : ℕ) (flags : List Bool) (n' : ℕ) (h h' : S.Standing) (a : Answer) (low : i < length (successors m)) (small : b ≤ budget_limit)
       (t : Trying S b standing m n i flags h n') (r : Trial S h (get_or (successors m) i nowhere) b a h') where
-    pub trying_next : (w : Bool) (more : List Bool) → more ≡ flags ++ (w ∷ []) → a.verdict ≡ verdict_of w → Trying S b standing m n (i + 1) more h' (n' + cost a)
+    pub trying_next : (w : Bool) (more : List Bool) → more ≡ flags ++ (w ∷ []) → word a.verdict ≡ value_word w → Trying S b standing m n (i + 1) more h' (n' + cost a)
     trying_next w more pushed v =
         let e = beyond-next i m low in
         let p : suc i ≡ i + 1 = omega arith in
@@ -117,7 +103,7 @@ module _ (S : Storing) (b : ℕ) (standing : S.Standing) (m : Moves) (n : ℕ) w
               subst (λ (q : ℕ). Stops S b standing m q z) s y;
         }
 
-    pub trying_stop : a.verdict ≡ verdict.Spent → length (successors m) ≤ 6144 → Adds (λ k. Stops S b standing m k h') n (n' + cost a)
+    pub trying_stop : word a.verdict ≡ codes "spent" → length (successors m) ≤ 6144 → Adds (λ k. Stops S b standing m k h') n (n' + cost a)
     trying_stop v few = record {
       cost = t.so_far + cost a;
       sum = omega (arith, t.sum);
@@ -150,10 +136,10 @@ pub same_flags : {S : Storing} {b : ℕ} {standing standing' : S.Standing} {m : 
 same_flags {S = S} {b = b} {standing = standing} {standing' = standing'} {m = m} {n = n} {n' = n'} e a =
     subst (λ (fs : List Bool). Adds (λ k. AllTried S b standing m fs k standing') n n') (sym e) a
 
-pub attempt_spent : {S : Storing} {b : ℕ} {standing standing' : S.Standing} {m : Moves} (ws : List Bool) {n n' : ℕ} (r : Result (Unit {0}) Stop) (stop : Stop) → stop ≡ Spent
+pub attempt_spent : {S : Storing} {b : ℕ} {standing standing' : S.Standing} {m : Moves} (ws : List Bool) {n n' : ℕ} (r : Result (Unit {0}) Stop) (stop : Stop) → stop_word stop ≡ codes "spent"
     → IsErrAnd r (λ e. e ≡ stop) → Adds (λ k. Stops S b standing m k standing') n n' → Attempted S b standing m ws n r standing' n'
 attempt_spent ws (Ok u) stop s h a = elim h [ ]
-attempt_spent ws (Err e) stop s h a = (h ∙ s, a)
+attempt_spent ws (Err e) stop s h a = (ap stop_word h ∙ s, a)
 
 map_in : (ℕ → ℕ) → Option ℕ → Option ℕ
 map_in f None = None

@@ -1,12 +1,14 @@
 -- What the program does at a position of a solution, step by step.
-use Rattle.std.proofs.Common.{◌≡◌, ◌≢◌, ℕ, suc, ◌+◌, ◌-◌, ◌*◌, ◌<◌, ◌≤◌, Bool, List, [], ◌∷◌, ◌++◌, length, get_or, take, Some, None, Option, Ok, Err, Result, sym, refl, ap, ◌∙◌, subst, append_assoc, arith, length-append, length-take}
+use Rattle.std.proofs.Common.{◌≡◌, ◌≢◌, ℕ, suc, ◌+◌, ◌-◌, ◌*◌, ◌<◌, ◌≤◌, Bool, List, [], ◌∷◌, ◌++◌, length, get_or, take, Some, None, Option, Ok, Err, Result, sym, refl, ap, ◌∙◌, subst, append_assoc, codes, arith, length-append, length-take}
 use Rattle.std.specs.Result.{IsErrAnd}
 use Rattle.game.specs.declared.state.State.TheVariants.{Attacker, Defender}
 use Rattle.game.specs.Tree.{Tree, Moves, nowhere, state, moves, next, words}
 use Rattle.search.specs.declared.budget.Budget.{Budget}
 use Rattle.table.specs.Storings.{Storing}
-use Rattle.solution_laws.specs.declared.ending.Ending.TheVariants.{Done, Cut}
+use Rattle.solution_laws.specs.declared.ending.Ending.{Ending}
+use Rattle.solution_laws.specs.declared.ending.Ending.TheVariants.{Done, Spent, Cut}
 use Rattle.solution_laws.specs.Lines.{Line}
+use Rattle.solution_laws.specs.Words.{word}
 use Rattle.solution_laws.specs.Solution.{AllTried, Stops, best, wins, Part, no_line, then, reply_line, Solves, stopped, no_win, full, win, defends, Replies, no_reply, no_room, last, reply}
 use Rattle.solution_laws.proofs.Choice.{best-wins, true_below}
 use Rattle.solution_laws.proofs.Spent.{tried-length}
@@ -14,7 +16,7 @@ use Rattle.solution.specs.declared.page.Page.{Page}
 use Rattle.solution.specs.declared.page.Full.{Full}
 use Rattle.solution.specs.declared.stop.Stop.{Stop}
 use Rattle.solution.specs.declared.stop.Stop.TheVariants as stops
-use Rattle.solution.specs.Stops.{ending_at, ending_of}
+use Rattle.solution.specs.Stops.{stop_word, end_word}
 use Rattle.solution.specs.Attempts.{most, Adds}
 use Rattle.solution.specs.Pages.{room, Written, Writes}
 use Rattle.solution.specs.Following.{Followed, Attacked, Attacks}
@@ -34,12 +36,12 @@ followed_at {S = S} {k = k} {t = t} {b' = b'} {standing = standing} {standing' =
 
 module _ (S : Storing) (b k : ℕ) (i : Option ℕ) (t : Tree) (standing : S.Standing) (page : Page) (n : ℕ) where
   -- nothing is written
-  pub no_line_followed : (r : Result (Unit {0}) Stop) (c : ℕ) (standing' : S.Standing) (n' : ℕ) → n' ≡ n + c → c ≤ most
-      → Solves S b k i t standing (room page) (no_line (ending_of r) c) standing' → Followed S b k i t standing page n r standing' page n'
-  no_line_followed r c standing' n' s l z = record {
-    part = no_line (ending_of r) c;
+  pub no_line_followed : (r : Result (Unit {0}) Stop) (e : Ending) (c : ℕ) (standing' : S.Standing) (n' : ℕ) → word e ≡ end_word r → n' ≡ n + c → c ≤ most
+      → Solves S b k i t standing (room page) (no_line e c) standing' → Followed S b k i t standing page n r standing' page n'
+  no_line_followed r e c standing' n' d s l z = record {
+    part = no_line e c;
     solves = z;
-    ending = refl;
+    ending = d;
     sum = s;
     written = written_none page;
     fits = omega arith;
@@ -48,18 +50,16 @@ module _ (S : Storing) (b k : ℕ) (i : Option ℕ) (t : Tree) (standing : S.Sta
 
   module _ (standing' : S.Standing) (n' : ℕ) (e : state t ≡ Attacker) where
     pub spent_attacks : (r : Result (Option ℕ) Stop) (stop : Stop) → IsErrAnd r (λ s. s ≡ stop)
-        → (stop ≡ stops.Spent) × Adds (λ c. Stops S b standing (moves t) c standing') n n' → Attacks S b k i t standing page n r standing' page n'
+        → (stop_word stop ≡ codes "spent") × Adds (λ c. Stops S b standing (moves t) c standing') n n' → Attacks S b k i t standing page n r standing' page n'
     spent_attacks (Ok o) stop h a = elim h [ ]
     spent_attacks (Err s) stop h a =
-        let z = stopped {i = i} e a.1.holds in
-        no_line_followed (Err s) a.1.cost standing' n' a.1.sum a.1.bound
-        (subst (λ (x : Stop). Solves S b k i t standing (room page) (no_line (ending_at x) a.1.cost) standing') (sym (h ∙ a.0)) z)
+        no_line_followed (Err s) Spent a.1.cost standing' n' (sym (ap stop_word h ∙ a.0)) a.1.sum a.1.bound (stopped e a.1.holds refl)
 
     pub no_win_attacks : (ws : List Bool) → Adds (λ c. AllTried S b standing (moves t) ws c standing') n n' → best i ws ≡ None
         → Followed S b k i t standing page n (Ok tt) standing' page n'
-    no_win_attacks ws a o = no_line_followed (Ok tt) a.cost standing' n' a.sum a.bound (no_win e a.holds o)
+    no_win_attacks ws a o = no_line_followed (Ok tt) Done a.cost standing' n' refl a.sum a.bound (no_win e a.holds o refl)
 
-    pub cut_attacks : (r : Result (Option ℕ) Stop) (f : Full) (j : ℕ) (ws : List Bool) (page' : Page) → IsErrAnd r (λ s. s ≡ stops.Cut)
+    pub cut_attacks : (r : Result (Option ℕ) Stop) (f : Full) (j : ℕ) (ws : List Bool) (page' : Page) → IsErrAnd r (λ s. stop_word s ≡ codes "cut")
         → Adds (λ c. AllTried S b standing (moves t) ws c standing') n n' → best i ws ≡ Some j → Writes (wins k j ws (words t)) page (Err f) page'
         → Attacks S b k i t standing page n r standing' page' n'
     cut_attacks (Ok o) f j ws page' h a o' w = elim h [ ]
@@ -68,8 +68,8 @@ module _ (S : Storing) (b k : ℕ) (i : Option ℕ) (t : Tree) (standing : S.Sta
         let m = length-take (room page) ls in
         record {
           part = record { ending = Cut; lines = take (room page) ls; sum = a.cost };
-          solves = full e a.holds o w.0;
-          ending = ap ending_at h;
+          solves = full e a.holds o w.0 refl;
+          ending = sym h;
           sum = a.sum;
           written = w.1;
           fits = omega arith;
@@ -132,19 +132,19 @@ module _ (S : Storing) (b k : ℕ) (t : Tree) (standing : S.Standing) (page : Pa
     line : Line
     line = reply_line k (get_or (words t) i [])
 
-    pub replying_cut : (o : Option ℕ) (x : Result (Unit {0}) Stop) (f : Full) (p2 : Page) → IsErrAnd x (λ s. s ≡ stops.Cut) → state t ≡ Defender
+    pub replying_cut : (o : Option ℕ) (x : Result (Unit {0}) Stop) (f : Full) (p2 : Page) → IsErrAnd x (λ s. stop_word s ≡ codes "cut") → state t ≡ Defender
         → Writes (reply_line k (get_or (words t) i []) ∷ []) p1 (Err f) p2 → Followed S b k o t standing page n x h p2 n1
     unfolding line
     replying_cut o (Ok u) f p2 z e w = elim z [ ]
     replying_cut o (Err s) f p2 d e w =
         let z : room p1 ≡ 0 = omega (arith, w.0) in
-        let v = r.goes_on (no_line Cut 0) h (subst (λ (m : Moves). Replies S b k m h (room p1) (no_line Cut 0) h) (sym (beyond-next i (moves t) low)) (no_room z)) in
+        let v = r.goes_on (no_line Cut 0) h (subst (λ (m : Moves). Replies S b k m h (room p1) (no_line Cut 0) h) (sym (beyond-next i (moves t) low)) (no_room z refl)) in
         let y = subst (λ (m : ℕ). Written (take m (line ∷ [])) p1 p2) z w.1 in
         let l = length-append r.so_far [] in
         record {
           part = then r.so_far r.cost (no_line Cut 0);
           solves = defends e v;
-          ending = ap ending_at d;
+          ending = sym d;
           sum = omega (arith, r.sum);
           written = written-join r.so_far [] r.written y;
           fits = omega (arith, r.fits);
@@ -183,27 +183,27 @@ module _ (S : Storing) (b k : ℕ) (t : Tree) (standing : S.Standing) (page : Pa
       unfolding line lines
       replying-last o stop (Ok u) e d z = elim z [ ]
       replying-last o stop (Err s) e d z =
-          let en : f.part.ending ≡ ending_at s = sym f.ending ∙ ap ending_of d ∙ ap ending_at (sym z) in
-          let nd : f.part.ending ≢ Done = λ q. stops_short s (sym en ∙ q) in
+          let en : word f.part.ending ≡ stop_word s = f.ending ∙ ap end_word d ∙ ap stop_word (sym z) in
+          let nd : word f.part.ending ≢ codes "done" = λ q. stops_short s (sym en ∙ q) in
           let v = r.goes_on (then (line ∷ []) 0 f.part) h' (subst (λ (m : Moves). Replies S b k m h (room p1) (then (line ∷ []) 0 f.part) h') (sym (beyond-next i (moves t) low)) (last (omega (arith, w.0)) after nd)) in
           record {
             part = then r.so_far r.cost (then (line ∷ []) 0 f.part);
             solves = defends e v;
-            ending = sym en;
+            ending = en;
             sum = omega (arith, f.sum, r.sum);
             written = written-join r.so_far lines r.written joined;
             fits = fitting;
             bound = omega (arith, r.bound, f.bound, longer);
           }
         where
-          stops_short : (s : Stop) → ending_at s ≡ Done → ⊥
-          stops_short stops.Spent q = cc
-          stops_short stops.Cut q = cc
+          stops_short : (s : Stop) → stop_word s ≡ codes "done" → ⊥
+          stops_short stops.Spent q = absurd (cc)
+          stops_short stops.Cut q = absurd (cc)
 
-      pub replying-next : ending_of x ≡ Done → Replying (i + 1) h' p3 n3
+      pub replying-next : end_word x ≡ codes "done" → Replying (i + 1) h' p3 n3
       unfolding line lines
       replying-next d =
-          let dn : f.part.ending ≡ Done = sym f.ending ∙ d in
+          let dn : word f.part.ending ≡ codes "done" = f.ending ∙ d in
           let p : suc i ≡ i + 1 = omega arith in
           record {
             so_far = r.so_far ++ lines;
@@ -223,7 +223,7 @@ module _ (S : Storing) (b k : ℕ) (t : Tree) (standing : S.Standing) (page : Pa
   pub replying_end : (o : Option ℕ) (i : ℕ) (h : S.Standing) (p1 : Page) (n1 : ℕ) → Replying i h p1 n1 → length (next t) ≤ i → state t ≡ Defender
       → Followed S b k o t standing page n (Ok tt) h p1 n1
   replying_end o i h p1 n1 r l e =
-      let v = r.goes_on (no_line Done 0) h (subst (λ (m : Moves). Replies S b k m h (room p1) (no_line Done 0) h) (sym (beyond_end i (moves t) l)) no_reply) in
+      let v = r.goes_on (no_line Done 0) h (subst (λ (m : Moves). Replies S b k m h (room p1) (no_line Done 0) h) (sym (beyond_end i (moves t) l)) (no_reply refl)) in
       let m = length-append r.so_far [] in
       record {
         part = then r.so_far r.cost (no_line Done 0);

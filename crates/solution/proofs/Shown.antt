@@ -22,7 +22,7 @@ use Rattle.solution_laws.proofs.Reading.{lines_are_read_lem}
 use Rattle.solution_laws.specs.declared.ending.Ending.{Ending}
 use Rattle.solution.specs.declared.page.Page.{Page}
 use Rattle.solution.specs.declared.stop.Stop.{Stop}
-use Rattle.solution.specs.Stops.{ending_of}
+use Rattle.solution.specs.Stops.{end_word}
 use Rattle.solution.specs.declared.answer.Solution.{Solution}
 use Rattle.solution.specs.Pages.{put, laid, room}
 use Rattle.solution.specs.Following.{Followed}
@@ -50,7 +50,7 @@ laid-over : (ls : List Line) (buffer : List ℕ) → AllByRecursion Fits ls → 
 laid-over ls buffer f h = laid_from ls 0 [] buffer f refl (omega arith)
 
 pub shown : (positions : Tree → Type 0) (S : Storing) (b i : ℕ) (t : Tree) (standing : S.Standing) (page : Page) (r : Result (Unit {0}) Stop) (standing' : S.Standing) (page' : Page) (n n' : ℕ) (e : Ending)
-    → SolutionsFit positions S → positions t → page.lines ≡ 0 → page.keys ≡ 0 → page.duals ≡ 0 → n ≡ 0 → e ≡ ending_of r
+    → SolutionsFit positions S → positions t → page.lines ≡ 0 → page.keys ≡ 0 → page.duals ≡ 0 → n ≡ 0 → word e ≡ end_word r
     → Followed S b 1 (Some i) t standing page n r standing' page' n'
     → Solved S standing t i b page.buffer.now (record { ending = e; lines = page'.lines; keys = page'.keys; duals = page'.duals; sum = n' }) standing' page'.buffer.now
 shown positions S b i t standing page r standing' page' n n' e fit pt zl zk zd zn en f =
@@ -59,7 +59,7 @@ shown positions S b i t standing page r standing' page' n n' e fit pt zl zk zd z
     record {
       part = f.part;
       solves = subst (λ (x : ℕ). Solves S b 1 (Some i) t standing x f.part standing') m f.solves;
-      ending = en ∙ f.ending;
+      ending = en ∙ sym f.ending;
       lines = omega (arith, w.lines);
       keys = omega (arith, w.keys);
       duals = omega (arith, w.duals);
@@ -131,6 +131,6 @@ means positions S standing t i b buffer a standing' buffer' fit right meant pt a
       duals = s.duals;
       sound = λ h. (right standing t b i n p standing' h pt at s.solves).sound;
       attacks_win = λ h. (right standing t b i n p standing' h pt at s.solves).attacks_win;
-      keys_have_lines = λ h e. (right standing t b i n p standing' h pt at s.solves).keys_have_lines (sym (ap word s.ending) ∙ e);
-      spent = λ e. meant standing t b i n p standing' s.solves (sym (ap word s.ending) ∙ e);
+      keys_have_lines = λ h e. (right standing t b i n p standing' h pt at s.solves).keys_have_lines (sym s.ending ∙ e);
+      spent = λ e. meant standing t b i n p standing' s.solves (sym s.ending ∙ e);
     }

@@ -39,7 +39,7 @@ declined t i b n l =
 pub record Solved (S : Storing) (standing : S.Standing) (t : Tree) (i b : ℕ) (buffer : List ℕ) (a : Solution) (standing' : S.Standing) (buffer' : List ℕ) : Type 0 where
   pub part : Part
   pub solves : solution.Solution S b i t standing (length buffer / 8) part standing'
-  pub ending : a.ending ≡ part.ending
+  pub ending : word a.ending ≡ word part.ending
   pub lines : a.lines ≡ length part.lines
   pub keys : a.keys ≡ keys part.lines
   pub duals : a.duals ≡ duals part.lines

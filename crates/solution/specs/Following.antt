@@ -2,10 +2,11 @@
 use Rattle.std.specs.Prelude.{◌≡◌, ℕ, ◌+◌, ◌*◌, ◌<◌, ◌≤◌, List, Bool, length, Some, None, Ok, Err, Option, Result}
 use Rattle.game.specs.Tree.{Tree, rank, moves, next, words}
 use Rattle.table.specs.Storings.{Storing}
+use Rattle.solution_laws.specs.Words.{word}
 use Rattle.solution_laws.specs.Solution.{AllTried, best, wins, Part, Solves}
 use Rattle.solution.specs.declared.page.Page.{Page}
 use Rattle.solution.specs.declared.stop.Stop.{Stop}
-use Rattle.solution.specs.Stops.{ending_of}
+use Rattle.solution.specs.Stops.{end_word}
 use Rattle.solution.specs.Attempts.{most, Adds}
 use Rattle.solution.specs.Pages.{room, Written, Writes}
 
@@ -18,7 +19,7 @@ pub record Ready (k : ℕ) (t : Tree) (page : Page) (n : ℕ) : Type 0 where
 pub record Followed (S : Storing) (b k : ℕ) (i : Option ℕ) (t : Tree) (standing : S.Standing) (page : Page) (n : ℕ) (r : Result (Unit {0}) Stop) (standing' : S.Standing) (page' : Page) (n' : ℕ) : Type 0 where
   pub part : Part
   pub solves : Solves S b k i t standing (room page) part standing'
-  pub ending : ending_of r ≡ part.ending
+  pub ending : word part.ending ≡ end_word r
   pub sum : n' ≡ n + part.sum
   pub written : Written part.lines page page'
   pub fits : length part.lines ≤ room page

@@ -1,14 +1,12 @@
--- How a solution ends where it stops.
-use Rattle.std.specs.Prelude.{Ok, Err, Result}
-use Rattle.solution_laws.specs.declared.ending.Ending.{Ending}
-use Rattle.solution_laws.specs.declared.ending.Ending.TheVariants as endings
+-- How a solution ends, by the word of that ending.
+use Rattle.std.specs.Prelude.{ℕ, List, Ok, Err, Result, codes}
 use Rattle.solution.specs.declared.stop.Stop.{Stop}
 use Rattle.solution.specs.declared.stop.Stop.TheVariants.{Spent, Cut}
 
-abbrev pub ending_at : Stop → Ending
-ending_at Spent = endings.Spent
-ending_at Cut = endings.Cut
+abbrev pub stop_word : Stop → List ℕ
+stop_word Spent = codes "spent"
+stop_word Cut = codes "cut"
 
-abbrev pub ending_of : Result (Unit {0}) Stop → Ending
-ending_of (Ok u) = endings.Done
-ending_of (Err stop) = ending_at stop
+abbrev pub end_word : Result (Unit {0}) Stop → List ℕ
+end_word (Ok u) = codes "done"
+end_word (Err stop) = stop_word stop

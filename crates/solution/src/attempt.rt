@@ -4,7 +4,7 @@ ghost use Rattle.game.specs.Tree.{nowhere, moves, next};
 ghost use Rattle.search_laws.specs.Trial.{Trial};
 ghost use Rattle.solution_laws.specs.Solution.{best};
 ghost use Rattle.solution.specs.Solvers.{Stays};
-ghost use Rattle.solution.specs.Attempts.{most, value_of, Attempted};
+ghost use Rattle.solution.specs.Attempts.{most, Valued, Attempted};
 
 use crate::solver::Solver;
 use crate::stop::Stop;
@@ -15,7 +15,7 @@ use table::Table;
 
 /// A verdict as a value, if it is one.
 fn value(verdict: Verdict) -> Result<bool, Stop>
-    ensures { result ≡ value_of verdict }
+    ensures { Valued verdict result }
 {
     match verdict {
         Verdict::Won => Ok(true),

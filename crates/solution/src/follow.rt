@@ -101,7 +101,8 @@ impl<'g, 't, 'r, G: Game, T: Table> Solver<'g, 't, 'r, G, T> {
         ensures follows { Followed T.storing self.old.budget.amount ply.number intended (G.current self.old.game.now) (T.standing self.old.table.now) page.old self.old.sum result (T.standing self.new.table.now) page.new self.new.sum }
     {
         match self.game.state() {
-            State::Won | State::NotWon => Ok(()),
+            State::Won => Ok(()),
+            State::NotWon => Ok(()),
             State::Attacker => self.follow_best(page, ply, intended),
             State::Defender => self.follow_replies(page, ply),
         }

@@ -1,6 +1,6 @@
-ghost use Rattle.std.specs.Prelude.{◌≡◌};
-ghost use Rattle.solution.specs.declared.stop.Stop.TheVariants.{Cut};
-ghost use Rattle.solution.specs.Stops.{ending_at, ending_of};
+ghost use Rattle.std.specs.Prelude.{◌≡◌, codes};
+ghost use Rattle.solution_laws.specs.Words.{word};
+ghost use Rattle.solution.specs.Stops.{stop_word, end_word};
 
 use crate::page::Full;
 use solution_laws::Ending;
@@ -13,7 +13,7 @@ pub(crate) enum Stop {
 }
 
 impl From<Full> for Stop {
-    ghost from_gives = { λ _ stop. stop ≡ Cut };
+    ghost from_gives = { λ _ stop. stop_word stop ≡ codes "cut" };
 
     fn from(_full: Full) -> Stop {
         Stop::Cut
@@ -21,7 +21,7 @@ impl From<Full> for Stop {
 }
 
 impl From<Stop> for Ending {
-    ghost from_gives = { λ stop ending. ending ≡ ending_at stop };
+    ghost from_gives = { λ stop ending. word ending ≡ stop_word stop };
 
     fn from(stop: Stop) -> Ending {
         match stop {
@@ -33,7 +33,7 @@ impl From<Stop> for Ending {
 
 /// How a solution ends, from how its following did.
 pub(crate) fn ending_of(end: Result<(), Stop>) -> Ending
-    ensures { result ≡ ending_of end }
+    ensures { word result ≡ end_word end }
 {
     end.map_or_else(Ending::from, |()| Ending::Done)
 }

@@ -34,11 +34,11 @@ module _ {start : Tree} {positions : Tree → Type 0} {depth width : ℕ} {readi
   mutual
     solves_fit : {k : ℕ} {i : Option ℕ} {t : Tree} {standing : S.Standing} {room : ℕ} {p : Part} {standing' : S.Standing} → Solves S b k i t standing room p standing'
         → positions t → k + rank t ≤ 33 → AllByRecursion Fits p.lines
-    solves_fit (won e) pt l = tt
-    solves_fit (not_won e) pt l = tt
-    solves_fit (stopped e st) pt l = tt
-    solves_fit (no_win e ts be) pt l = tt
-    solves_fit {k = k} {i = i} {t = t} {room = room} (full {j = j} {ws = ws} e ts be r) pt l =
+    solves_fit (won e d) pt l = tt
+    solves_fit (not_won e d) pt l = tt
+    solves_fit (stopped e st d) pt l = tt
+    solves_fit (no_win e ts be d) pt l = tt
+    solves_fit {k = k} {i = i} {t = t} {room = room} (full {j = j} {ws = ws} e ts be r d) pt l =
         let g = true_below ws j (best-wins i ws j be) in
         let n = tried-length ts in
         let m = length-texts (moves t) in
@@ -59,8 +59,8 @@ module _ {start : Tree} {positions : Tree → Type 0} {depth width : ℕ} {readi
 
     replies_fit : {k : ℕ} {m : Moves} {standing : S.Standing} {room : ℕ} {p : Part} {standing' : S.Standing} → Replies S b k m standing room p standing'
         → (r : ℕ) → AllByRecursion positions (successors m) → AllByRecursion (λ u. rank u < r) (successors m) → AllByRecursion (λ x. length x ≡ 5) (texts m) → k < 100 → k + r ≤ 33 → AllByRecursion Fits p.lines
-    replies_fit no_reply r c f x l s = tt
-    replies_fit (no_room z) r c f x l s = tt
+    replies_fit (no_reply d) r c f x l s = tt
+    replies_fit (no_room z d) r c f x l s = tt
     replies_fit (last z more e) r c f x l s = ((l, x.0), solves_fit more c.0 (omega (arith, f.0)))
     replies_fit {k = k} (reply {x = y} {p = p} {q = q} z more e rs) r c f x l s =
         All-append Fits (reply_line k y ∷ p.lines) q.lines ((l, x.0), solves_fit more c.0 (omega (arith, f.0))) (replies_fit rs r c.1 f.1 x.1 l s)

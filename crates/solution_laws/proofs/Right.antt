@@ -1,22 +1,20 @@
 -- A solution keeps a sound table sound, its attacker's lines are for winning moves, and each key has a line.
-use Rattle.std.proofs.Common.{◌≡◌, ℕ, suc, ◌<◌, Bool, true, false, List, [], ◌∷◌, ◌++◌, map, length, get_or, take, Some, None, Option, sym, refl, ap, ◌∙◌, subst, arith}
+use Rattle.std.proofs.Common.{◌≡◌, ℕ, suc, ◌<◌, Bool, true, false, List, [], ◌∷◌, ◌++◌, map, length, get_or, take, Some, None, Option, sym, refl, ap, ◌∙◌, subst, codes, arith}
 use Rattle.std.specs.List.{AllByRecursion}
 use Rattle.std.proofs.ByRecursion.{All-get_or}
 use Rattle.std.proofs.lemmas.List.{get_or-map, length-map}
 use Rattle.game.specs.declared.state.State.TheVariants.{Attacker}
 use Rattle.game.specs.Rules.{Rules}
 use Rattle.game.specs.Tree.{Tree, Reading, Moves, nowhere, state, moves, successors, texts, next, words, minimax}
-use Rattle.search_laws.specs.declared.answer.Verdict.TheVariants.{Won as IsWon, NotWon as IsNotWon}
 use Rattle.table.specs.Storings.{Storing}
-use Rattle.search_laws.specs.Words.{word as said}
-use Rattle.search_laws.specs.Trial.{verdict_of}
+use Rattle.search_laws.specs.Words as verdicts
+use Rattle.search_laws.specs.Words.{value_word}
 use Rattle.search_laws.specs.Claims.{Sound, TrialsAreRight}
-use Rattle.solution_laws.specs.declared.ending.Ending.TheVariants.{Done}
 use Rattle.solution_laws.specs.Lines.{Line}
 use Rattle.solution_laws.specs.Solution.{AllTried, no_more, tried, Stops, spent, later, chosen_line, reply_line, others_from, wins, Part, Solves, won, not_won, stopped, no_win, full, win, defends, Replies, no_reply, no_room, last, reply}
+use Rattle.solution_laws.specs.Words.{word}
 use Rattle.solution_laws.specs.Claims.{by_text, last_at, reached, KeysHaveLines, SolutionsAreRight}
 use Rattle.solution_laws.proofs.Clash.{clash}
-use Rattle.solution_laws.proofs.Endings.{ends_done}
 use Rattle.solution_laws.proofs.Texts.{Distinct, by-text-at, length-texts}
 use Rattle.solution_laws.proofs.Choice.{true_below, best-wins, best_none}
 use Rattle.solution_laws.proofs.Reached.{Deep, deep-join, deep-less, reached-deep, reached-next, RightFrom, right-join, attacks_win, Winning, AllWinning, winning_deep, winning_take, winning_right}
@@ -31,10 +29,10 @@ module _ (positions : Tree → Type 0) (closed : (t : Tree) → positions t → 
   tried_right {standing = standing} (tried {standing' = h} {x = x} {t = t} {m = m} {w = w} {a = a} r v more) l s =
       let f = right standing t b a h s l.0 r in
       let k = tried_right more l.1 f.0 in
-      let e : w ≡ minimax t = value w v (λ z. f.1 (ap said z)) (λ z. f.2 (ap said z)) in
+      let e : w ≡ minimax t = value w v f.1 f.2 in
       (k.0, λ i. e i ∷ k.1 i)
     where
-      value : (w : Bool) → a.verdict ≡ verdict_of w → (a.verdict ≡ IsWon → minimax t ≡ true) → (a.verdict ≡ IsNotWon → minimax t ≡ false) → w ≡ minimax t
+      value : (w : Bool) → verdicts.word a.verdict ≡ value_word w → (verdicts.word a.verdict ≡ codes "won" → minimax t ≡ true) → (verdicts.word a.verdict ≡ codes "not-won" → minimax t ≡ false) → w ≡ minimax t
       value true e p q = sym (p e)
       value false e p q = sym (q e)
 
@@ -68,11 +66,11 @@ module _ (positions : Tree → Type 0) (closed : (t : Tree) → positions t → 
     solves_fine : {k : ℕ} {i : Option ℕ} {t : Tree} {standing : S.Standing} {room : ℕ} {p : Part} {standing' : S.Standing} → Solves S b k i t standing room p standing'
         → (start : Tree) (above : List Line) (n : ℕ) → k ≡ suc n → positions t → Sound positions (S.shows standing) → reached start above n ≡ Some t
         → Fine start above n p standing'
-    solves_fine (won e) start above n q pt s r = record { sound = s; deep = tt; fine = tt }
-    solves_fine (not_won e) start above n q pt s r = record { sound = s; deep = tt; fine = tt }
-    solves_fine {t = t} (stopped e st) start above n q pt s r = record { sound = stops_sound st (closed t pt) s; deep = tt; fine = tt }
-    solves_fine {t = t} (no_win e tr be) start above n q pt s r = record { sound = (tried_right tr (closed t pt) s).0; deep = tt; fine = tt }
-    solves_fine {k = k} {i = i} {t = t} {room = room} (full {j = j} {ws = ws} e tr be l) start above n q pt s r =
+    solves_fine (won e d) start above n q pt s r = record { sound = s; deep = tt; fine = tt }
+    solves_fine (not_won e d) start above n q pt s r = record { sound = s; deep = tt; fine = tt }
+    solves_fine {t = t} (stopped e st d) start above n q pt s r = record { sound = stops_sound st (closed t pt) s; deep = tt; fine = tt }
+    solves_fine {t = t} (no_win e tr be d) start above n q pt s r = record { sound = (tried_right tr (closed t pt) s).0; deep = tt; fine = tt }
+    solves_fine {k = k} {i = i} {t = t} {room = room} (full {j = j} {ws = ws} e tr be l d) start above n q pt s r =
         let f = tried_right tr (closed t pt) s in
         let w = wins_winning n t j ws pt f.1 (best-wins i ws j be) in
         let w' = subst (λ (k : ℕ). AllWinning n t (wins k j ws (words t))) (sym q) w in
@@ -104,8 +102,8 @@ module _ (positions : Tree → Type 0) (closed : (t : Tree) → positions t → 
         → (start : Tree) (above : List Line) (n : ℕ) (t : Tree) → k ≡ suc n → Sound positions (S.shows standing) → reached start above n ≡ Some t
         → AllByRecursion positions (successors m) → ((i : ℕ) → i < length (successors m) → by_text (get_or (texts m) i []) (moves t) ≡ Some (get_or (successors m) i nowhere))
         → Fine start above n p standing'
-    replies_fine no_reply start above n t q s r l d = record { sound = s; deep = tt; fine = tt }
-    replies_fine (no_room z) start above n t q s r l d = record { sound = s; deep = tt; fine = tt }
+    replies_fine (no_reply c) start above n t q s r l d = record { sound = s; deep = tt; fine = tt }
+    replies_fine (no_room z c) start above n t q s r l d = record { sound = s; deep = tt; fine = tt }
     replies_fine {k = k} (last {x = x} {t = u} {p = p} z more e) start above n t q s r l d =
         let y = reply_line k x in
         let r' = reached-next start above y [] n t u r (d 0 (omega arith)) q refl (omega arith, tt) refl in
@@ -130,15 +128,15 @@ module _ (positions : Tree → Type 0) (closed : (t : Tree) → positions t → 
         }
 
   keys_in : {k : ℕ} {i : Option ℕ} {t : Tree} {standing : S.Standing} {room : ℕ} {p : Part} {standing' : S.Standing} → Solves S b k i t standing room p standing'
-      → k ≡ 1 → state t ≡ Attacker → positions t → Sound positions (S.shows standing) → p.ending ≡ Done → KeysHaveLines t p.lines
-  keys_in (won e) q a pt s d i l w = clash (cc)
-  keys_in (not_won e) q a pt s d i l w = clash (cc)
-  keys_in (stopped e st) q a pt s d i l w = clash (cc)
-  keys_in {i = o} {t = t} (no_win {ws = ws} e tr be) q a pt s d i l w =
+      → k ≡ 1 → state t ≡ Attacker → positions t → Sound positions (S.shows standing) → word p.ending ≡ codes "done" → KeysHaveLines t p.lines
+  keys_in (won e c) q a pt s d i l w = clash (cc)
+  keys_in (not_won e c) q a pt s d i l w = clash (cc)
+  keys_in (stopped e st c) q a pt s d i l w = absurd (cc)
+  keys_in {i = o} {t = t} (no_win {ws = ws} e tr be c) q a pt s d i l w =
       let f = tried_right tr (closed t pt) s in
       let z = best_none o ws be i (ap (λ (x : List Bool). get_or x i false) f.1 ∙ get_or-map minimax (next t) i nowhere false l ∙ w) in
       elim z [ ]
-  keys_in (full e tr be r) q a pt s d i l w = clash (cc)
+  keys_in (full e tr be r c) q a pt s d i l w = absurd (cc)
   keys_in {k = k} {t = t} (win {j = j} {ws = ws} {p = p} e tr be r more) q a pt s d i l w =
       let f = tried_right tr (closed t pt) s in
       let n = length-texts (moves t) in
@@ -151,4 +149,4 @@ pub solutions_are_right_lem : {start : Tree} {positions : Tree → Type 0} {dept
     → (S : Storing) → TrialsAreRight positions S → SolutionsAreRight positions S
 solutions_are_right_lem {positions = positions} rules S right standing t b i room p standing' s pt a sol =
     let f = solves_fine positions rules.closed rules.distinct S right b sol t [] 0 refl pt s refl in
-    record { sound = f.sound; attacks_win = attacks_win t p.lines f.fine; keys_have_lines = λ e. keys_in positions rules.closed rules.distinct S right b sol refl a pt s (ends_done p.ending e) }
+    record { sound = f.sound; attacks_win = attacks_win t p.lines f.fine; keys_have_lines = λ e. keys_in positions rules.closed rules.distinct S right b sol refl a pt s e }

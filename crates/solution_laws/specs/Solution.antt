@@ -1,15 +1,16 @@
 -- A solution: which trials it makes, which lines it writes, and how it ends.
-use Rattle.std.specs.Prelude.{◌≡◌, ℕ, suc, ◌+◌, ◌-◌, ◌<◌, ◌≤◌, Bool, false, cond, List, [], ◌∷◌, ◌++◌, length, take, Some, None, Option, ◌==◌, ◌≢◌, slice_index_or}
+use Rattle.std.specs.Prelude.{◌≡◌, ℕ, suc, ◌+◌, ◌-◌, ◌<◌, ◌≤◌, Bool, false, cond, List, [], ◌∷◌, ◌++◌, length, take, Some, None, Option, codes, ◌==◌, ◌≢◌, slice_index_or}
 use Rattle.game.specs.declared.state.State.TheVariants.{Won, NotWon, Attacker, Defender}
 use Rattle.game.specs.Tree.{Tree, Moves, none, move, nowhere, state, moves, next, words}
-use Rattle.search_laws.specs.declared.answer.Verdict.TheVariants.{Spent as IsSpent}
 use Rattle.search_laws.specs.declared.answer.Answer.{Answer}
 use Rattle.table.specs.Storings.{Storing}
-use Rattle.search_laws.specs.Trial.{Trial, verdict_of}
+use Rattle.search_laws.specs.Trial.{Trial}
+use Rattle.search_laws.specs.Words as verdicts
+use Rattle.search_laws.specs.Words.{value_word}
 use Rattle.solution_laws.specs.declared.sign.Sign.TheVariants.{Chosen, Other, Reply}
 use Rattle.solution_laws.specs.declared.ending.Ending.{Ending}
-use Rattle.solution_laws.specs.declared.ending.Ending.TheVariants.{Done, Spent, Cut}
 use Rattle.solution_laws.specs.Lines.{Line}
+use Rattle.solution_laws.specs.Words.{word}
 
 -- what a trial adds to the sum
 abbrev pub cost : Answer → ℕ
@@ -19,15 +20,15 @@ cost a = a.expansions + a.entries
 pub data AllTried (S : Storing) (b : ℕ) : S.Standing → Moves → List Bool → ℕ → S.Standing → Type 0 where
   no_more : {standing : S.Standing} → AllTried S b standing none [] 0 standing
   tried : {standing standing' standing'' : S.Standing} {x : List ℕ} {t : Tree} {m : Moves} {w : Bool} {ws : List Bool} {a : Answer} {n : ℕ} →
-      Trial S standing t b a standing' → a.verdict ≡ verdict_of w → AllTried S b standing' m ws n standing'' →
+      Trial S standing t b a standing' → verdicts.word a.verdict ≡ value_word w → AllTried S b standing' m ws n standing'' →
       AllTried S b standing (move x t m) (w ∷ ws) (cost a + n) standing''
 
 -- A trial is spent: the moves up to that one are tried, with the sum and where the table then stands.
 pub data Stops (S : Storing) (b : ℕ) : S.Standing → Moves → ℕ → S.Standing → Type 0 where
   spent : {standing standing' : S.Standing} {x : List ℕ} {t : Tree} {m : Moves} {a : Answer} →
-      Trial S standing t b a standing' → a.verdict ≡ IsSpent → Stops S b standing (move x t m) (cost a) standing'
+      Trial S standing t b a standing' → verdicts.word a.verdict ≡ codes "spent" → Stops S b standing (move x t m) (cost a) standing'
   later : {standing standing' standing'' : S.Standing} {x : List ℕ} {t : Tree} {m : Moves} {a : Answer} {n : ℕ} (w : Bool) →
-      Trial S standing t b a standing' → a.verdict ≡ verdict_of w → Stops S b standing' m n standing'' →
+      Trial S standing t b a standing' → verdicts.word a.verdict ≡ value_word w → Stops S b standing' m n standing'' →
       Stops S b standing (move x t m) (cost a + n) standing''
 
 -- the number of the first move that wins
@@ -82,20 +83,20 @@ mutual
   -- What comes at a position, given the ply of its moves, the intended move if there is one, where the table stands, and how many lines
   -- still fit: the part that it makes of the solution, and where the table then stands.
   pub data Solves (S : Storing) (b : ℕ) : ℕ → Option ℕ → Tree → S.Standing → ℕ → Part → S.Standing → Type 0 where
-    won : {k : ℕ} {i : Option ℕ} {t : Tree} {standing : S.Standing} {room : ℕ} →
-        state t ≡ Won → Solves S b k i t standing room (no_line Done 0) standing
-    not_won : {k : ℕ} {i : Option ℕ} {t : Tree} {standing : S.Standing} {room : ℕ} →
-        state t ≡ NotWon → Solves S b k i t standing room (no_line Done 0) standing
-    stopped : {k : ℕ} {i : Option ℕ} {t : Tree} {standing standing' : S.Standing} {room n : ℕ} →
-        state t ≡ Attacker → Stops S b standing (moves t) n standing' →
-        Solves S b k i t standing room (no_line Spent n) standing'
-    no_win : {k : ℕ} {i : Option ℕ} {t : Tree} {standing standing' : S.Standing} {room n : ℕ} {ws : List Bool} →
-        state t ≡ Attacker → AllTried S b standing (moves t) ws n standing' → best i ws ≡ None →
-        Solves S b k i t standing room (no_line Done n) standing'
-    full : {k : ℕ} {i : Option ℕ} {t : Tree} {standing standing' : S.Standing} {room n j : ℕ} {ws : List Bool} →
+    won : {k : ℕ} {i : Option ℕ} {t : Tree} {standing : S.Standing} {room : ℕ} {e : Ending} →
+        state t ≡ Won → word e ≡ codes "done" → Solves S b k i t standing room (no_line e 0) standing
+    not_won : {k : ℕ} {i : Option ℕ} {t : Tree} {standing : S.Standing} {room : ℕ} {e : Ending} →
+        state t ≡ NotWon → word e ≡ codes "done" → Solves S b k i t standing room (no_line e 0) standing
+    stopped : {k : ℕ} {i : Option ℕ} {t : Tree} {standing standing' : S.Standing} {room n : ℕ} {e : Ending} →
+        state t ≡ Attacker → Stops S b standing (moves t) n standing' → word e ≡ codes "spent" →
+        Solves S b k i t standing room (no_line e n) standing'
+    no_win : {k : ℕ} {i : Option ℕ} {t : Tree} {standing standing' : S.Standing} {room n : ℕ} {ws : List Bool} {e : Ending} →
+        state t ≡ Attacker → AllTried S b standing (moves t) ws n standing' → best i ws ≡ None → word e ≡ codes "done" →
+        Solves S b k i t standing room (no_line e n) standing'
+    full : {k : ℕ} {i : Option ℕ} {t : Tree} {standing standing' : S.Standing} {room n j : ℕ} {ws : List Bool} {e : Ending} →
         state t ≡ Attacker → AllTried S b standing (moves t) ws n standing' → best i ws ≡ Some j →
-        room < length (wins k j ws (words t)) →
-        Solves S b k i t standing room (record { ending = Cut; lines = take room (wins k j ws (words t)); sum = n }) standing'
+        room < length (wins k j ws (words t)) → word e ≡ codes "cut" →
+        Solves S b k i t standing room (record { ending = e; lines = take room (wins k j ws (words t)); sum = n }) standing'
     win : {k : ℕ} {i : Option ℕ} {t : Tree} {standing standing' standing'' : S.Standing} {room n j : ℕ} {ws : List Bool} {p : Part} →
         state t ≡ Attacker → AllTried S b standing (moves t) ws n standing' → best i ws ≡ Some j →
         length (wins k j ws (words t)) ≤ room →
@@ -107,14 +108,14 @@ mutual
 
   -- What comes at a defender's position: for each move, in order, a line with `.`, followed by what comes after the move.
   pub data Replies (S : Storing) (b : ℕ) : ℕ → Moves → S.Standing → ℕ → Part → S.Standing → Type 0 where
-    no_reply : {k : ℕ} {standing : S.Standing} {room : ℕ} → Replies S b k none standing room (no_line Done 0) standing
-    no_room : {k : ℕ} {x : List ℕ} {t : Tree} {m : Moves} {standing : S.Standing} {room : ℕ} →
-        room ≡ 0 → Replies S b k (move x t m) standing room (no_line Cut 0) standing
+    no_reply : {k : ℕ} {standing : S.Standing} {room : ℕ} {e : Ending} → word e ≡ codes "done" → Replies S b k none standing room (no_line e 0) standing
+    no_room : {k : ℕ} {x : List ℕ} {t : Tree} {m : Moves} {standing : S.Standing} {room : ℕ} {e : Ending} →
+        room ≡ 0 → word e ≡ codes "cut" → Replies S b k (move x t m) standing room (no_line e 0) standing
     last : {k : ℕ} {x : List ℕ} {t : Tree} {m : Moves} {standing standing' : S.Standing} {room : ℕ} {p : Part} →
-        0 < room → Solves S b (suc k) None t standing (room - 1) p standing' → (p.ending ≢ Done) →
+        0 < room → Solves S b (suc k) None t standing (room - 1) p standing' → (word p.ending ≢ codes "done") →
         Replies S b k (move x t m) standing room (then (reply_line k x ∷ []) 0 p) standing'
     reply : {k : ℕ} {x : List ℕ} {t : Tree} {m : Moves} {standing standing' standing'' : S.Standing} {room : ℕ} {p q : Part} →
-        0 < room → Solves S b (suc k) None t standing (room - 1) p standing' → p.ending ≡ Done →
+        0 < room → Solves S b (suc k) None t standing (room - 1) p standing' → word p.ending ≡ codes "done" →
         Replies S b k m standing' (room - suc (length p.lines)) q standing'' →
         Replies S b k (move x t m) standing room (then (reply_line k x ∷ p.lines) p.sum q) standing''
 

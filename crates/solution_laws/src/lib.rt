@@ -6,4 +6,6 @@ mod theorems;
 
 pub use ending::Ending;
 pub use sign::Sign;
-pub use theorems::{lines_are_read, solutions_agree, solutions_are_right, spent_is_meant};
+pub use theorems::{
+    ending_tells, lines_are_read, solutions_agree, solutions_are_right, spent_is_meant,
+};

@@ -1,8 +1,14 @@
+ghost use Rattle.solution_laws.specs.Words.{EndingTells};
 ghost use Rattle.solution_laws.specs.Lines.{LinesAreRead, OnlyLinesAreRead};
 ghost use Rattle.solution_laws.specs.Claims.{SolutionsAreRight, SpentIsMeant, SolutionsAgree, SolutionsEnd, SolutionsFit};
 
 use game::Game;
 use table::Table;
+
+/// Endings of the same word are the same.
+pub fn ending_tells()
+    ensures { EndingTells }
+{}
 
 /// Where a table shows no false decided pair, it shows none after a solution; its attacker's lines are for moves that win, and if it is done
 /// it has a line for each key.

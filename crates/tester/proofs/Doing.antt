@@ -1,6 +1,6 @@
 -- What the game, the search and the solution say of their calls is what the rules say.
-use Rattle.std.proofs.Common.{◌≡◌, ℕ, List, [], Ok, Err, Result, sym, refl, ◌∙◌, subst, MatchResult}
-use Rattle.game.specs.Tree.{position, refused}
+use Rattle.std.proofs.Common.{◌≡◌, ℕ, ◌<◌, ◌≤◌, List, [], ◌∷◌, length, get_or, Ok, Err, Result, sym, refl, ◌∙◌, subst, MatchResult}
+use Rattle.game.specs.Tree.{position, refused, nowhere, next}
 use Rattle.game.specs.declared.decline.Decline.{Decline}
 use Rattle.game.specs.Declines.{number}
 use Rattle.game.specs.declared.decline.SetDecline.{SetDecline}
@@ -9,7 +9,6 @@ use Rattle.table.specs.declared.Table as table
 use Rattle.table.specs.declared.pair.Pair.{Pair}
 use Rattle.search_laws.specs.declared.answer.Answer.{Answer}
 use Rattle.search_laws.specs.Calls.{Tried}
-use Rattle.search.proofs.Moves.{PlaySays, BackSays}
 use Rattle.solution.specs.declared.answer.Solution.{Solution}
 use Rattle.solution.specs.Calls.{Answered}
 use Rattle.tester.specs.declared.reply.Reply.{Reply}
@@ -32,12 +31,15 @@ module _ {G T : Type 0} (g : game.Ghosts G) (h : table.Ghosts T) where
     set_does text aim (Ok u) k = moved refl (sym k.1) refl (sets k.0)
     set_does text aim (Err d) k = moved (sym k.1) (sym k.2) refl (not_set k.0)
 
-    pub play_does : (i : ℕ) (r : Result (Unit {0}) Decline) → PlaySays i (g.current x) (g.earlier x) (g.current x') (g.earlier x') r
+    pub play_does : (i : ℕ) (r : Result (Unit {0}) Decline)
+        → MatchResult r (λ _. (i < length (next (g.current x))) × (g.current x' ≡ get_or (next (g.current x)) i nowhere) × (g.earlier x' ≡ g.current x ∷ g.earlier x))
+        (λ e. (length (next (g.current x)) ≤ i) × (g.current x' ≡ g.current x) × (g.earlier x' ≡ g.earlier x) × (number e ≡ 5))
         → Does g h (at g h x y) (play i) no_loan (move_reply r) no_loan (at g h x' y)
     play_does i (Ok u) k = moved (sym k.1) (sym k.2) refl (plays k.0)
     play_does i (Err d) k = moved (sym k.1) (sym k.2) refl (not_played k.3 k.0)
 
-    pub back_does : (r : Result (Unit {0}) Decline) → BackSays (g.current x) (g.earlier x) (g.current x') (g.earlier x') r
+    pub back_does : (r : Result (Unit {0}) Decline)
+        → MatchResult r (λ _. g.earlier x ≡ g.current x' ∷ g.earlier x') (λ e. (g.earlier x ≡ []) × (g.current x' ≡ g.current x) × (g.earlier x' ≡ []) × (number e ≡ 6))
         → Does g h (at g h x y) take_back no_loan (move_reply r) no_loan (at g h x' y)
     back_does (Ok u) k = takes_back k
     back_does (Err d) k = moved (sym k.1) (k.0 ∙ sym k.2) refl (not_taken_back k.3 k.0)

@@ -1,4 +1,3 @@
-pub mod Words
 pub mod Lists
 pub mod Single
 pub mod Doing

@@ -76,7 +76,7 @@ module _ {G T : Type 0} (g : game.Ghosts G) (h : table.Ghosts T) (th : Theorems 
   -- a trial from the same stand with a larger budget, if it is not declined, has the same verdict
   tried_again : (s : Stand h) (b b' : ℕ) (a : Answer) (standing' : h.storing.Standing) (l : Lent) → Good g.positions s → Trial h.storing s.standing s.current b a standing' → (word a.verdict ≢ codes "spent") → b ≤ b'
       → trial_decline b' (length l.records) ≡ None → (r : Reply) (l' : Lent) (s' : Stand h) → Does g h s (trial b') l r l' s'
-      → (a' : Answer) × (r ≡ Tried a') × (a'.verdict ≡ a.verdict)
+      → (a' : Answer) × (r ≡ Tried a') × (word a'.verdict ≡ word a.verdict)
   tried_again s b b' a standing' l k t n o e r l' s' (tries {a = a'} {standing' = standing''} m d t') =
       (a', refl, th.last s.standing s.current b b' a a' standing' standing'' k.sound k.here o t t' n)
   tried_again s b b' a standing' l k t n o e r l' s' (not_tried d) = clash (cc)

@@ -27,7 +27,6 @@ use Rattle.tester.specs.Calls.{Stand, Asked, trial, solution, Lent, Does, tries,
 use Rattle.tester.specs.Claims.{TrialRight, SolutionRight, Right, Each, AllRight}
 use Rattle.tester.proofs.Single.{some_trial}
 use Rattle.tester.proofs.Doing.{renamed}
-use Rattle.tester.proofs.Words.{same_verdict}
 
 no_two : IsProp ⊥
 no_two x y = absurd x
@@ -126,11 +125,13 @@ module _ (t : Tree) (b : ℕ) (a : Solution) (buffer : List ℕ) (meant : ending
 
 module _ {G T : Type 0} (g : game.Ghosts G) (h : table.Ghosts T) where
   again : {s s' : Stand h} {b : ℕ} {l l' : Lent} {r : Reply} (v : Verdict) → Does g h s (trial b) l r l' s' → trial_decline b (length l.records) ≡ None
-      → ∥ ((a : Answer) × (r ≡ Tried a) × (a.verdict ≡ v)) ∥₁ → (a : Answer) × (r ≡ Tried a) × (a.verdict ≡ v)
+      → ∥ ((a : Answer) × (r ≡ Tried a) × (word a.verdict ≡ word v)) ∥₁ → (a : Answer) × (r ≡ Tried a) × (word a.verdict ≡ word v)
   again v (tries {a = a} n d t) o x = (
     a,
     refl,
-    same_verdict a.verdict v (∥∥₁_elim x (ℕ_set _ _) (λ y. let p : a ≡ y.0 = let q = y.1 in cc in ap (λ (z : Answer). length (word z.verdict)) p ∙ ap (λ (z : Verdict). length (word z)) y.2)),
+    (bytes_eq-Decides (word a.verdict) (word v)).0 (∥∥₁_elim x (Bool-set _ _) (λ y.
+        let p : a ≡ y.0 = let q = y.1 in cc in
+        (bytes_eq-Decides (word a.verdict) (word v)).1 (ap (λ (z : Answer). word z.verdict) p ∙ y.2))),
   )
   again v (not_tried d) o x = clash (cc)
 
@@ -146,7 +147,7 @@ module _ {G T : Type 0} (g : game.Ghosts G) (h : table.Ghosts T) where
   spent_of : {s s' : Stand h} {i b : ℕ} {l l' : Lent} {a : Solution} → Does g h s (solution i b) l (Solved a) l' s' → endings.word a.ending ≡ codes "spent"
       → (u : Tree) × Follows s.current u × (share b < need u)
   spent_of {s = s} {i = i} {b = b} (solves {l = l} {a = a} {standing' = standing'} n d v) w =
-      spent-is-meant h.storing (trials.spent-is-meant h.storing) s.standing s.current b i (length l.buffer / 8) v.part standing' v.solves (sym (ap endings.word v.ending) ∙ w)
+      spent-is-meant h.storing (trials.spent-is-meant h.storing) s.standing s.current b i (length l.buffer / 8) v.part standing' v.solves (sym v.ending ∙ w)
 
   pub outright : {s s' : Stand h} {c : Asked} {l l' : Lent} {r : Reply} → Does g h s c l r l' s' → ∥ Right g h s c r l' ∥₁ → Right g h s c r l'
   outright {s = s} {l' = l'} d x = record {

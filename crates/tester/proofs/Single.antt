@@ -14,12 +14,14 @@ use Rattle.table.specs.declared.Table as table
 use Rattle.search_laws.specs.Claims.{TrialsAgree, TrialsEnd}
 use Rattle.search_laws.specs.Calls.{budget_limit, trial_decline}
 use Rattle.solution_laws.specs.Lines.{written_over, keys, duals}
+use Rattle.solution_laws.specs.Words.{word}
 use Rattle.solution_laws.specs.Solution.{Part}
 use Rattle.solution_laws.specs.Claims.{SolutionsAgree, SolutionsEnd}
 use Rattle.search_laws.proofs.Courses.{trials_agree_lem}
 use Rattle.search_laws.proofs.Deciding.{trials_end_lem}
 use Rattle.solution_laws.proofs.Agree.{solutions_agree_lem}
 use Rattle.solution_laws.proofs.Clash.{clash}
+use Rattle.solution_laws.proofs.Endings.{same_ending}
 use Rattle.solution_laws.proofs.Ends.{solutions_end}
 use Rattle.solution.specs.declared.answer.Solution.{Solution}
 use Rattle.solution.specs.Limits.{buffer_limit}
@@ -31,10 +33,10 @@ use Rattle.tester.specs.Claims.{OneWay, RecordsAreNotRead}
 
 -- two solutions from one stand answer the same, and leave the same buffer and table
 
-one_solution : (a b : Solution) (p q : Part) → p ≡ q → a.ending ≡ p.ending → b.ending ≡ q.ending → a.lines ≡ length p.lines → b.lines ≡ length q.lines
+one_solution : (a b : Solution) (p q : Part) → p ≡ q → word a.ending ≡ word p.ending → word b.ending ≡ word q.ending → a.lines ≡ length p.lines → b.lines ≡ length q.lines
     → a.keys ≡ keys p.lines → b.keys ≡ keys q.lines → a.duals ≡ duals p.lines → b.duals ≡ duals q.lines → a.sum ≡ p.sum → b.sum ≡ q.sum → a ≡ b
 one_solution a b p q e e1 e2 l1 l2 k1 k2 d1 d2 s1 s2 =
-    let x1 : a.ending ≡ b.ending = e1 ∙ ap (λ (r : Part). r.ending) e ∙ sym e2 in
+    let x1 : a.ending ≡ b.ending = same_ending a.ending b.ending (e1 ∙ ap (λ (r : Part). word r.ending) e ∙ sym e2) in
     let x2 : a.lines ≡ b.lines = l1 ∙ ap (λ (r : Part). length r.lines) e ∙ sym l2 in
     let x3 : a.keys ≡ b.keys = k1 ∙ ap (λ (r : Part). keys r.lines) e ∙ sym k2 in
     let x4 : a.duals ≡ b.duals = d1 ∙ ap (λ (r : Part). duals r.lines) e ∙ sym d2 in
@@ -121,11 +123,11 @@ module _ {G T : Type 0} (g : game.Ghosts G) (h : table.Ghosts T) (rules : Rules 
   some_take_back s l (t ∷ ts) e = (_, _, _, takes_back e)
 
   try_trial : (s : Stand h) (b : ℕ) (l : Lent) → Checked (trial_decline b (length l.records)) → Outcome s (trial b) l
-  try_trial s b l (declines d e) = (_, _, _, not_tried e)
+  try_trial s b l (declines d e) = (_, _, _, not_tried {d = d} e)
   try_trial s b l (accepts e) = let z = trials s.standing s.current b in (_, l, _, tries refl e z.1.1)
 
   try_solution : (s : Stand h) (i b : ℕ) (l : Lent) → Checked (declined s.current i b (length l.records) (length l.buffer)) → Outcome s (solution i b) l
-  try_solution s i b l (declines d e) = (_, _, _, not_solved e)
+  try_solution s i b l (declines d e) = (_, _, _, not_solved {d = d} e)
   try_solution s i b l (accepts e) =
       let z = solutions s.standing s.current b i (length l.buffer / 8) in
       let p : Part = z.0 in

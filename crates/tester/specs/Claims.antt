@@ -30,7 +30,7 @@ pub record TrialRight {G T : Type 0} (g : game.Ghosts G) (h : table.Ghosts T) (s
   pub won : word a.verdict ≡ codes "won" → minimax s.current ≡ true
   pub not_won : word a.verdict ≡ codes "not-won" → minimax s.current ≡ false
   pub lasts : word a.verdict ≢ codes "spent" → (b' : ℕ) (l : Lent) → b ≤ b' → trial_decline b' (length l.records) ≡ None →
-      Gives g h s (trial b') l (λ r. (a' : Answer) × (r ≡ Tried a') × (a'.verdict ≡ a.verdict))
+      Gives g h s (trial b') l (λ r. (a' : Answer) × (r ≡ Tried a') × (word a'.verdict ≡ word a.verdict))
   pub spent : word a.verdict ≡ codes "spent" → share b < need s.current
 
 -- What is right about a solution from a stand. Its lines are those that the buffer then says, as many as it answers. Each line with `!` or

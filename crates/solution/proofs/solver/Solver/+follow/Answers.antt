@@ -1,5 +1,6 @@
-use Rattle.std.proofs.Common.{◌≡◌, ◌<◌, ℕ, [], ◌∷◌, length, get_or, Ok, Err, Option, inl, inr, sym, refl, ap, ◌∙◌, subst, arith}
+use Rattle.std.proofs.Common.{◌≡◌, ◌<◌, ℕ, [], ◌∷◌, length, get_or, Ok, Err, Option, sym, refl, ap, ◌∙◌, subst, arith}
 use Rattle.game.specs.Tree.{Tree, moves, next, words}
+use Rattle.solution_laws.specs.declared.ending.Ending.TheVariants.{Done}
 use Rattle.solution_laws.specs.Solution.{reply_line, won, not_won}
 use Rattle.solution_laws.proofs.Texts.{length-texts}
 use Rattle.solution.specs.Pages.{Writes}
@@ -15,8 +16,16 @@ follow-returns-in-Won-clause-follows g t c =
     let s = c.args.self.now in
     let u : Tree = g.G.Game.current s.game.now in
     let h = g.T.Table.standing s.table.now in
-    let at_end = no_line_followed g.T.Table.storing s.budget.amount c.args.ply.number c.args.intended u h c.args.page.now s.sum (Ok tt) 0 h s.sum (omega arith) (omega arith) in
-    elim c.in-Won.is [ inl e ↦ at_end (won (sym c.state.ensures ∙ e)) | inr e ↦ at_end (not_won (sym c.state.ensures ∙ e)) ]
+    no_line_followed g.T.Table.storing s.budget.amount c.args.ply.number c.args.intended u h c.args.page.now s.sum (Ok tt) Done 0 h s.sum refl (omega arith) (omega arith)
+    (won (sym c.state.ensures ∙ c.in-Won.is) refl)
+
+pub follow-returns-in-NotWon-clause-follows : goal.follow-returns-in-NotWon-clause-follows
+follow-returns-in-NotWon-clause-follows g t c =
+    let s = c.args.self.now in
+    let u : Tree = g.G.Game.current s.game.now in
+    let h = g.T.Table.standing s.table.now in
+    no_line_followed g.T.Table.storing s.budget.amount c.args.ply.number c.args.intended u h c.args.page.now s.sum (Ok tt) Done 0 h s.sum refl (omega arith) (omega arith)
+    (not_won (sym c.state.ensures ∙ c.in-NotWon.is) refl)
 
 -- an attacker's position
 

@@ -1,9 +1,9 @@
-use Rattle.std.proofs.Common.{◌≡◌, ◌+◌, ◌<◌, ℕ, Bool, [], ◌∷◌, ◌++◌, length, sym, refl, ap, ◌∙◌, subst, arith}
+use Rattle.std.proofs.Common.{◌≡◌, ◌+◌, ◌<◌, ℕ, Bool, [], ◌∷◌, ◌++◌, length, refl, ap, ◌∙◌, subst, arith}
 use Rattle.arrayvec.specs.ArrayVec.{ArrayVec}
 use Rattle.game.specs.Tree.{Tree, moves, next}
 use Rattle.solution_laws.specs.Solution.{cost, Stops}
 use Rattle.solution.specs.Attempts.{Adds}
-use Rattle.solution.proofs.Attempts.{Trying, trial_at, few, value-won, value-spent, trying_start, trying_next, trying_stop, trying_end, attempt_spent}
+use Rattle.solution.proofs.Attempts.{Trying, trial_at, few, trying_start, trying_next, trying_stop, trying_end, attempt_spent}
 use Rattle.solution.proofs.Solvers.{stays-join}
 use Rattle.solution.proofs.solver.Solver.try_moves.Goals as goal
 
@@ -28,7 +28,7 @@ returns-in_err-won-clause-tried g c =
     let v = c.loop-i.invariant in
     let low : i < length (next t) = omega (arith, c.count-i-end.ensures, c.loop-i-test.true) in
     let r = trial_at i v.stays.at v.stays.budget c.try_move-answer.ensures.tried in
-    let w = value-spent a.verdict c.in_err-won.field-0.0 (sym c.value.ensures ∙ c.in_err-won.was) in
+    let w = c.in_err-won.ensures in
     let s : c.loop-i.self.sum + cost a ≡ y.self.sum + (c.from.result + c.from-in-loop-i.result) = omega (arith, c.try_move-answer.ensures.sum, c.from.ensures, c.from-in-loop-i.ensures) in
     let f = few g.met.G.Game.lawful t (g.met.G.Game.within c.args.self.now.game.now) in
     let z = trying_stop S b standing (moves t) n i c.loop-i.self.flags.items c.loop-i.self.sum h h' a low c.args.self.now.budget.within v.trying r w.0 f in
@@ -49,7 +49,7 @@ loop-i-preserved g c =
     let v = c.loop-i.invariant in
     let low : i < length (next t) = omega (arith, c.count-i-end.ensures, c.loop-i-test.true) in
     let r = trial_at i v.stays.at v.stays.budget c.try_move-answer.ensures.tried in
-    let w = value-won a.verdict c.in_ok-won.won (sym c.value.ensures ∙ c.in_ok-won.was) in
+    let w = c.in_ok-won.ensures in
     let s : c.loop-i.self.sum + cost a ≡ y.self.sum + (c.from.result + c.from-in-loop-i.result) = omega (arith, c.try_move-answer.ensures.sum, c.from.ensures, c.from-in-loop-i.ensures) in
     let f = few g.met.G.Game.lawful t (g.met.G.Game.within c.args.self.now.game.now) in
     let z = trying_next S b standing (moves t) n i c.loop-i.self.flags.items c.loop-i.self.sum h h' a low c.args.self.now.budget.within v.trying r c.in_ok-won.won c.push.new.self.items (c.push.ensures.items ∙ ap (λ (f : ArrayVec Bool). f.items ++ (c.in_ok-won.won ∷ [])) c.try_move-answer.ensures.flags) w in

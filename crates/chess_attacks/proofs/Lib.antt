@@ -4,7 +4,6 @@ pub mod Onward
 pub mod Runs
 pub mod Sights
 pub mod Walks
-pub mod LeapTable
 pub mod Reach
 pub mod Ways
 pub mod Members

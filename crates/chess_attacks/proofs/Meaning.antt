@@ -12,7 +12,7 @@ use Rattle.chess_attacks.specs.declared.men.Kind.TheVariants.{King, Queen, Rook,
 use Rattle.chess_attacks.specs.declared.men.Side.{Side}
 use Rattle.chess_attacks.specs.Men.{Squares, on, given, other, same_side, is_knight, king_of}
 use Rattle.chess_attacks.specs.Ranges.{range_of}
-use Rattle.chess_attacks.specs.Commands.{Along, gap, Commands, Attacked, Checked}
+use Rattle.chess_attacks.specs.Commands.{Reached, Along, gap, Commands, Attacked, Checked}
 use Rattle.chess_attacks.specs.Commands.Commands.{by_line, by_leap}
 use Rattle.chess_attacks.specs.Lists.{beside, line, lines, leaps, leap, single, commands, attacks, attacked, king_hit, checked}
 use Rattle.chess_attacks.proofs.Sides.{side-true, side_same, king_is, kind_same}
@@ -86,17 +86,8 @@ no_range m d h = go m.kind h
     go Knight h = refl
     go Pawn h = absurd (false≢true h)
 
--- t is in a line at some distance, with no man between
-pub record Run (b : Squares) (d : Direction) (f n t : ℕ) : Type 0 where
-  pub distance : ℕ
-  pub some : 0 < distance
-  pub in_range : distance ≤ n
-  pub OnBoard : distance ≤ reach d f
-  pub target : t ≡ away d f distance
-  pub clear : (k : ℕ) → 0 < k → k < distance → on b (away d f k) ≡ None
-
 module _ (b : Squares) (d : Direction) (f : ℕ) (in' : f < 64) (n t : ℕ) where
-  pub line_run : member t (line b d f n) ≡ true → Run b d f n t
+  pub line_run : member t (line b d f n) ≡ true → Reached b d f n t
   line_run h =
       let w = line_way b d n f t h in
       let q : Far b d f in' 0 w.0 t = way_far b d f in' w.2 0 (sym (away-none d f in')) (omega arith) in
@@ -120,22 +111,24 @@ module _ (b : Squares) (d : Direction) (f : ℕ) (in' : f < 64) (n t : ℕ) wher
       let from-f : Way b d f t (suc k) = subst (λ (x : ℕ). Way b d x t (suc k)) (away-none d f in') at-t in
       way_line b d n from-f l
 
-  pub run_line : Run b d f n t → member t (line b d f n) ≡ true
+  pub run_line : Reached b d f n t → member t (line b d f n) ≡ true
   run_line r = line_at r.distance r.some r.in_range r.OnBoard r.target r.clear
+
+  -- the squares of a line are those reached
+  pub line_means : (w : ℕ) → w ≡ mask (line b d f n) → Decides (bit w t) (Reached b d f n t)
+  line_means w e = Decides-at (bit w t) (member t (line b d f n)) (ap (λ w. bit w t) e ∙ bit_mask (line b d f n) t) (line_run, run_line)
 
 module _ (b : Squares) (m : Man) (f : ℕ) (in' : f < 64) (t : ℕ) where
   along_from : member t (lines b m f) ≡ true → Along b m f t
   along_from h =
       let w = ways_some (λ d. member t (line b d f (range_of m d))) (sym (member-lines b m f t) ∙ h) in
-      let r : Run b w.0 f (range_of m w.0) t = line_run b w.0 f in' (range_of m w.0) t w.1 in
-      record { direction = w.0; distance = r.distance; some = r.some; in_range = r.in_range; OnBoard = r.OnBoard; target = r.target; clear = r.clear }
+      record { direction = w.0; reached = line_run b w.0 f in' (range_of m w.0) t w.1 }
 
   along_to : Along b m f t → member t (lines b m f) ≡ true
   along_to a =
       member-lines b m f t
       ∙ ways_from (λ d. member t (line b d f (range_of m d))) a.direction
-      (run_line b a.direction f in' (range_of m a.direction) t
-      (record { distance = a.distance; some = a.some; in_range = a.in_range; OnBoard = a.OnBoard; target = a.target; clear = a.clear }))
+      (run_line b a.direction f in' (range_of m a.direction) t a.reached)
 
   commands_from : (x : Bool) → is_knight m.kind ≡ x → member t (cond x (leaps f) (lines b m f)) ≡ true → Commands b m f t
   commands_from true k h =
@@ -144,7 +137,7 @@ module _ (b : Squares) (m : Man) (f : ℕ) (in' : f < 64) (t : ℕ) where
   commands_from false k h = by_line (along_from h)
 
   commands_to : (x : Bool) → is_knight m.kind ≡ x → Commands b m f t → member t (cond x (leaps f) (lines b m f)) ≡ true
-  commands_to true k (by_line a) = absurd (let none = no_range m a.direction k in let z : ⊥ = omega (arith, a.some, a.in_range) in z)
+  commands_to true k (by_line a) = absurd (let none = no_range m a.direction k in let z : ⊥ = omega (arith, a.reached.some, a.reached.in_range) in z)
   commands_to true k (by_leap e l h) = leap-is f t in' l ∙ eq-eqb (gap (file f) (file t) * gap (row f) (row t)) 2 h
   commands_to false k (by_line a) = along_to a
   commands_to false k (by_leap e l h) = absurd (false≢true (sym k ∙ ap is_knight e))

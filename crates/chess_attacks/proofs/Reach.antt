@@ -24,17 +24,17 @@ module _ (b : Squares) (d : Direction) where
   abbrev from : ℕ → Option ℕ → List ℕ
   from n o = given o [] (λ u. u ∷ rest n u)
 
-  abbrev Reached : ℕ → ℕ → ℕ → Type 0
-  Reached s t n = (k : ℕ) × (k ≤ n) × Way b d s t k
+  abbrev Within : ℕ → ℕ → ℕ → Type 0
+  Within s t n = (k : ℕ) × (k ≤ n) × Way b d s t k
 
-  past_man : (n s t u : ℕ) → beside d s ≡ Some u → ((u : ℕ) → member t (line b d u n) ≡ true → Reached u t n)
-      → (o : Option Man) → on b u ≡ o → member t (given o (line b d u n) (λ _. [])) ≡ true → Reached s t (suc n)
+  past_man : (n s t u : ℕ) → beside d s ≡ Some u → ((u : ℕ) → member t (line b d u n) ≡ true → Within u t n)
+      → (o : Option Man) → on b u ≡ o → member t (given o (line b d u n) (λ _. [])) ≡ true → Within s t (suc n)
   unfolding member
   past_man n s t u e ih None f h = let r = ih u h in (suc r.0, omega arith, more e f r.2)
   past_man n s t u e ih (Some m) f h = absurd (false≢true h)
 
-  past_step : (n s t : ℕ) → ((u : ℕ) → member t (line b d u n) ≡ true → Reached u t n)
-      → (o : Option ℕ) → beside d s ≡ o → member t (from n o) ≡ true → Reached s t (suc n)
+  past_step : (n s t : ℕ) → ((u : ℕ) → member t (line b d u n) ≡ true → Within u t n)
+      → (o : Option ℕ) → beside d s ≡ o → member t (from n o) ≡ true → Within s t (suc n)
   unfolding member
   past_step n s t ih None e h = absurd (false≢true h)
   past_step n s t ih (Some u) e h =
@@ -43,7 +43,7 @@ module _ (b : Squares) (d : Direction) where
       (λ y. past_man n s t u e ih (on b u) refl y)
       (or_cases (eqb u t) (member t (rest n u)) h)
 
-  pub line_way : (n s t : ℕ) → member t (line b d s n) ≡ true → Reached s t n
+  pub line_way : (n s t : ℕ) → member t (line b d s n) ≡ true → Within s t n
   unfolding line member
   line_way zero s t h = absurd (false≢true h)
   line_way (suc n) s t h = past_step n s t (λ u. line_way n u t) (beside d s) refl h

@@ -8,15 +8,19 @@ use Rattle.chess_attacks.specs.declared.men.Side.{Side}
 use Rattle.chess_attacks.specs.Men.{Squares, on, other}
 use Rattle.chess_attacks.specs.Ranges.{range_of}
 
--- The man m on f commands t along a line: t is on the board, in some direction and within the man's range, and no man stands between.
-pub record Along (b : Squares) (m : Man) (f t : ℕ) : Type 0 where
-  pub direction : Direction
+-- The square t is reached from f in the direction d within n squares: it is on the board, and no man stands between.
+pub record Reached (b : Squares) (d : Direction) (f n t : ℕ) : Type 0 where
   pub distance : ℕ
   pub some : 0 < distance
-  pub in_range : distance ≤ range_of m direction
-  pub OnBoard : distance ≤ reach direction f
-  pub target : t ≡ away direction f distance
-  pub clear : (k : ℕ) → 0 < k → k < distance → on b (away direction f k) ≡ None
+  pub in_range : distance ≤ n
+  pub OnBoard : distance ≤ reach d f
+  pub target : t ≡ away d f distance
+  pub clear : (k : ℕ) → 0 < k → k < distance → on b (away d f k) ≡ None
+
+-- The man m on f commands t along a line: t is reached in some direction within the man's range.
+pub record Along (b : Squares) (m : Man) (f t : ℕ) : Type 0 where
+  pub direction : Direction
+  pub reached : Reached b direction f (range_of m direction) t
 
 abbrev pub gap : ℕ → ℕ → ℕ
 gap x y = max x y - min x y

@@ -2,78 +2,23 @@ ghost use Rattle.std.specs.Prelude.{◌≡◌, ℕ, Decides};
 ghost use Rattle.board.specs.Masks.{bit, mask};
 ghost use Rattle.chess_attacks.specs.Men.{on};
 ghost use Rattle.chess_attacks.specs.Ranges.{range_of};
-ghost use Rattle.chess_attacks.specs.Commands.{Commands};
-ghost use Rattle.chess_attacks.specs.Lists.{line, lines, leaps, commands};
+ghost use Rattle.chess_attacks.specs.Commands.{Reached, Commands};
+ghost use Rattle.chess_attacks.specs.Lists.{line, lines, leap, leaps, numbered, single, commands};
 
+use crate::look::beside;
 use crate::men::{Board, Kind, Man, Side};
 use board::{Direction, Square};
 
-// The squares that a knight commands, as words.
-const LEAPS: [u64; 64] = [
-    0x20400,
-    0x50800,
-    0xa1100,
-    0x142200,
-    0x284400,
-    0x508800,
-    0xa01000,
-    0x402000,
-    0x2040004,
-    0x5080008,
-    0xa110011,
-    0x14220022,
-    0x28440044,
-    0x50880088,
-    0xa0100010,
-    0x40200020,
-    0x204000402,
-    0x508000805,
-    0xa1100110a,
-    0x1422002214,
-    0x2844004428,
-    0x5088008850,
-    0xa0100010a0,
-    0x4020002040,
-    0x20400040200,
-    0x50800080500,
-    0xa1100110a00,
-    0x142200221400,
-    0x284400442800,
-    0x508800885000,
-    0xa0100010a000,
-    0x402000204000,
-    0x2040004020000,
-    0x5080008050000,
-    0xa1100110a0000,
-    0x14220022140000,
-    0x28440044280000,
-    0x50880088500000,
-    0xa0100010a00000,
-    0x40200020400000,
-    0x204000402000000,
-    0x508000805000000,
-    0xa1100110a000000,
-    0x1422002214000000,
-    0x2844004428000000,
-    0x5088008850000000,
-    0xa0100010a0000000,
-    0x4020002040000000,
-    0x400040200000000,
-    0x800080500000000,
-    0x1100110a00000000,
-    0x2200221400000000,
-    0x4400442800000000,
-    0x8800885000000000,
-    0x100010a000000000,
-    0x2000204000000000,
-    0x4020000000000,
-    0x8050000000000,
-    0x110a0000000000,
-    0x22140000000000,
-    0x44280000000000,
-    0x88500000000000,
-    0x10a00000000000,
-    0x20400000000000,
+// The ways of a knight's leap: one square straight on and one more aslant.
+pub(crate) const KNIGHT_WAYS: [(Direction, Direction); 8] = [
+    (Direction::North, Direction::NorthEast),
+    (Direction::North, Direction::NorthWest),
+    (Direction::East, Direction::NorthEast),
+    (Direction::East, Direction::SouthEast),
+    (Direction::South, Direction::SouthEast),
+    (Direction::South, Direction::SouthWest),
+    (Direction::West, Direction::SouthWest),
+    (Direction::West, Direction::NorthWest),
 ];
 
 impl Man {
@@ -117,7 +62,8 @@ pub fn man_on(board: &Board, square: Square) -> Option<Man>
 /// The squares from `from` in a direction, at most `most` of them, up to and with the first that holds a man, as a
 /// word.
 pub fn line(board: &Board, from: Square, direction: Direction, most: u8) -> u64
-    ensures { result ≡ mask (line board.now direction from.number most) }
+    ensures exact { result ≡ mask (line board.now direction from.number most) }
+    ensures meaning { (t : ℕ) → Decides (bit result t) (Reached board.now direction from.number most t) }
 {
     let mut seen = 0;
     for next in from.ray(direction).take(most as usize) {
@@ -139,11 +85,31 @@ fn lines(board: &Board, man: Man, from: Square) -> u64
         .fold(0, |seen, more| seen | more)
 }
 
+// The square one straight on and one more aslant: none past the edge of the board.
+pub(crate) fn leap(square: Square, straight: Direction, aslant: Direction) -> Option<Square>
+    ensures { numbered result ≡ leap straight aslant square.number }
+{
+    beside(square, straight).and_then(|corner| beside(corner, aslant))
+}
+
+// The square of a leap as a word, which has no bit where there is none.
+fn leap_word(from: Square, straight: Direction, aslant: Direction) -> u64
+    ensures { result ≡ mask (single (leap straight aslant from.number)) }
+{
+    match leap(from, straight, aslant) {
+        Some(square) => square.single(),
+        None => 0,
+    }
+}
+
 // The squares a knight's leap away.
 fn leaps(from: Square) -> u64
     ensures { result ≡ mask (leaps from.number) }
 {
-    LEAPS[from.number() as usize]
+    KNIGHT_WAYS
+        .iter()
+        .map(|(straight, aslant)| leap_word(from, *straight, *aslant))
+        .fold(0, |seen, more| seen | more)
 }
 
 /// The squares that the man commands from `from`, as a word.

@@ -2,7 +2,7 @@ ghost use Rattle.std.specs.Prelude.{◌≡◌};
 ghost use Rattle.chess_attacks.specs.Lists.{beside, numbered};
 ghost use Rattle.chess_attacks.specs.Look.{struck, leapt, line_attack, leap_attack};
 
-use crate::commands::man_on;
+use crate::commands::{KNIGHT_WAYS, leap, man_on};
 use crate::men::{Board, Kind, Side, holds_man};
 use board::{Direction, Square};
 
@@ -28,18 +28,6 @@ fn strikes(board: &Board, square: Square, direction: Direction, by: Side) -> boo
     false
 }
 
-// The ways of a knight's leap: one square straight on and one more aslant.
-const KNIGHT_WAYS: [(Direction, Direction); 8] = [
-    (Direction::North, Direction::NorthEast),
-    (Direction::North, Direction::NorthWest),
-    (Direction::East, Direction::NorthEast),
-    (Direction::East, Direction::SouthEast),
-    (Direction::South, Direction::SouthEast),
-    (Direction::South, Direction::SouthWest),
-    (Direction::West, Direction::SouthWest),
-    (Direction::West, Direction::NorthWest),
-];
-
 // Whether a knight of the side stands one square straight on and one more aslant.
 #[tactic(auto, unfolding(crate::specs::Look::leapt))]
 fn leaps_from(
@@ -51,9 +39,11 @@ fn leaps_from(
 ) -> bool
     ensures { result ≡ leapt board.now by square.number straight aslant }
 {
-    beside(square, straight)
-        .and_then(|corner| beside(corner, aslant))
-        .is_some_and(|from| holds_man(man_on(board, from), by, Kind::Knight))
+    leap(square, straight, aslant).is_some_and(|from| holds_man(
+        man_on(board, from),
+        by,
+        Kind::Knight,
+    ))
 }
 
 pub(crate) fn line_attack(board: &Board, square: Square, by: Side) -> bool

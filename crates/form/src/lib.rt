@@ -6,7 +6,7 @@ ghost use Rattle.form.specs.Lines.{Holds};
 
 mod line;
 
-pub use line::Line;
+use line::Line;
 
 /// A reader of texts of a form: a state that says what may come next.
 pub trait Form: Sized + Drop {
@@ -50,8 +50,8 @@ pub fn read<F: Form>(text: &[u8]) -> Result<F::Content, usize>
 }
 
 impl Line {
-    /// A line with nothing written into it.
-    pub fn new() -> Line
+    // A line with nothing written into it.
+    pub(crate) fn new() -> Line
         ensures { Holds result [] }
     {
         Line {
@@ -60,8 +60,8 @@ impl Line {
         }
     }
 
-    /// One byte more at the end of the text: the same line where the 87 bytes are full.
-    pub fn push(self, byte: u8) -> Line
+    // One byte more at the end of the text: the same line where the 87 bytes are full.
+    pub(crate) fn push(self, byte: u8) -> Line
         ensures writes { (t : List ℕ) → Holds self t → length t < 87 → Holds result (t ++ byte ∷ []) }
         ensures full { 87 ≤ self.len → result ≡ self }
     {
@@ -76,8 +76,8 @@ impl Line {
         }
     }
 
-    /// The text that was written, and blanks.
-    pub fn bytes(self) -> [u8; 87]
+    // The text that was written, and blanks.
+    pub(crate) fn bytes(self) -> [u8; 87]
         ensures { (t : List ℕ) → Holds self t → result ≡ padded 87 t }
     {
         self.bytes

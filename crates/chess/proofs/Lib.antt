@@ -1,3 +1,8 @@
 pub mod Same
 pub mod Set
-pub mod Computed
+pub mod Mating
+pub mod Positioned
+pub mod FreshText
+pub mod Following
+pub mod Meaning
+pub mod Holding

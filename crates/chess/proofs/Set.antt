@@ -1,5 +1,5 @@
 -- What setting makes of a text, from what reading makes of it.
-use Rattle.std.proofs.Common.{◌≡◌, ℕ, ◌-◌, ◌*◌, ◌<◌, ◌≤◌, Bool, true, false, cond, ◌&&◌, leb, ◌⊎◌, List, Ok, Err, Result, MatchResult, IsErrAnd, sym, refl, ap, ◌∙◌, inl, inr, arith}
+use Rattle.std.proofs.Common.{◌≡◌, ℕ, ◌-◌, ◌*◌, Bool, true, false, cond, ◌&&◌, leb, List, Ok, Err, Result, MatchResult, IsErrAnd, sym, refl, ap, ◌∙◌, arith}
 use Rattle.std.proofs.lemmas.Bool.Decides.{nat_tests}
 use Rattle.form.specs.Forms.{reading}
 use Rattle.game.specs.Tree.{position, refused}
@@ -15,11 +15,7 @@ use Rattle.chess.specs.declared.problem.Problem.{Problem}
 use Rattle.chess.specs.Setting.{judged, reading_of, Aims}
 
 module _ (t : List ℕ) (aim : ℕ) where
-  pub no_aim_is : (aim < 1) ⊎ ((1 ≤ aim) × (aim_limit < aim)) → Aims aim → ⊥
-  no_aim_is (inl h) a = omega arith
-  no_aim_is (inr h) a = omega arith
-
-  aim_set : Aims aim → (r : Result Diagram ℕ) → r ≡ reading form t → reading_of t aim ≡ judged aim r
+  pub aim_set : Aims aim → (r : Result Diagram ℕ) → r ≡ reading form t → reading_of t aim ≡ judged aim r
   aim_set a r q =
       let e : (leb 1 aim && leb aim aim_limit) ≡ true = let h = a.some in let k = a.few in grind (arith, nat_tests) in
       ap (λ (x : Bool). cond x (judged aim (reading form t)) (refused 7 0)) e ∙ ap (judged aim) (sym q)

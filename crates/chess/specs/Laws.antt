@@ -20,7 +20,10 @@ use Rattle.chess_moves.specs.declared.diagram.Diagram.{Diagram}
 use Rattle.chess_moves.specs.declared.step.Move.{Move}
 use Rattle.chess_moves.specs.After.{played}
 use Rattle.chess_moves.specs.Moves.{legal_moves}
-use Rattle.chess_moves.specs.Legal.{Ordered}
+use Rattle.chess_moves.specs.Legal.{Legal, Ordered}
+use Rattle.chess_rules.proofs.Keeping.{moves-keep}
+use Rattle.chess.specs.Turn.{AttackersTurn}
+use Rattle.chess.specs.Flipped.{turn_moves, choices_legal}
 use Rattle.chess_rules.specs.Lawful.{Lawful, lawful}
 use Rattle.chess_text.specs.Reading.{form}
 use Rattle.chess.specs.Limits.{aim_limit, plies_limit, moves_limit}
@@ -34,7 +37,7 @@ use Rattle.chess_rules.proofs.Tested.{lawful_means}
 use Rattle.chess.specs.Codes.{codes_tell_lem, side_small, passing_small, word_small}
 use Rattle.chess.specs.Distinct.{distinct_texts}
 use Rattle.chess.specs.First.{first_lawful}
-use Rattle.chess.specs.Grown.{rank_is, state_is, code_is, next_is, words_is, count_is, grow, choices_keep}
+use Rattle.chess.specs.Grown.{rank_is, state_is, code_is, next_is, words_is, count_is, grow}
 
 all_each : {X : Type 0} (P : X → Type 0) → ((x : X) → P x) → (xs : List X) → AllByRecursion P xs
 all_each P f [] = tt
@@ -47,15 +50,28 @@ begun = record {
   diagram = two_kings;
   few = omega arith;
   lawful = (lawful_means two_kings).0 first_lawful;
+  turn = (λ _. refl, λ _. refl);
   is = refl;
 }
 
 module _ (a : Side) (n : ℕ) (d : Diagram) (few : n ≤ plies_limit) (law : Lawful d) where
-  grown : (v : Move) → Lawful (played d v) → IsTree (grow a n d v)
-  grown v k = record { attacker = a; plies = n - 1; diagram = played d v; few = omega arith; lawful = k; is = refl }
+  grown : (m : ℕ) → m ≡ n → AttackersTurn n d.mover a → AllByRecursion (λ v. IsTree (grow a n d v)) (choices m d)
+  grown zero e w = tt
+  grown (suc m) e w =
+      All-weaker (Legal d) (λ v. IsTree (grow a n d v))
+      (λ v l. record {
+        attacker = a;
+        plies = n - 1;
+        diagram = played d v;
+        few = omega arith;
+        lawful = moves-keep d law v l;
+        turn = turn_moves a n d law v l (omega arith) w;
+        is = refl;
+      })
+      (legal_moves d) (choices_legal (suc m) d)
 
-  closed : AllByRecursion IsTree (next (tree a n d))
-  closed = subst (AllByRecursion IsTree) (sym (next_is a n d)) (All-map IsTree (grow a n d) (choices n d) (All-weaker (λ v. Lawful (played d v)) _ grown (choices n d) (choices_keep n d law)))
+  closed : AttackersTurn n d.mover a → AllByRecursion IsTree (next (tree a n d))
+  closed w = subst (AllByRecursion IsTree) (sym (next_is a n d)) (All-map IsTree (grow a n d) (choices n d) (grown n refl w))
 
   falls_all : (m : ℕ) → m ≡ n → AllByRecursion (λ v. rank (grow a n d v) < n) (choices m d)
   falls_all zero e = tt
@@ -177,14 +193,15 @@ record Given (t : Tree) : Type 0 where
   is_tree : IsTree t
   not_theirs : state t ≡ Defender → ⊥
 
-given_by : (aim : ℕ) (d : Diagram) (t : Tree) → aim ≤ aim_limit → lawful d ≡ true → tree d.mover (2 * aim - 1) d ≡ t → Given t
-given_by aim d t h k e = record {
+given_by : (aim : ℕ) (d : Diagram) (t : Tree) → 1 ≤ aim → aim ≤ aim_limit → lawful d ≡ true → tree d.mover (2 * aim - 1) d ≡ t → Given t
+given_by aim d t z h k e = record {
   is_tree = record {
     attacker = d.mover;
     plies = 2 * aim - 1;
     diagram = d;
     few = omega arith;
     lawful = (lawful_means d).0 k;
+    turn = (λ _. refl, λ _. omega arith);
     is = sym e;
   };
   not_theirs = λ q. attacking (2 * aim - 1) d (ap state e ∙ q);
@@ -193,19 +210,21 @@ given_by aim d t h k e = record {
 never : {X : Type 0} (c n : ℕ) (t : Tree) → refused c n ≡ position t → X
 never c n t e = let z : ◌≡◌ {A = ℕ} 0 1 = cc in absurd (let y : ⊥ = omega arith in y)
 
-judged_given : (aim : ℕ) (r : Result Diagram ℕ) (t : Tree) → aim ≤ aim_limit → judged aim r ≡ position t → Given t
-judged_given aim (Err n) t h e = never 8 n t e
-judged_given aim (Ok d) t h e = by (lawful d) refl e
+judged_given : (aim : ℕ) (r : Result Diagram ℕ) (t : Tree) → 1 ≤ aim → aim ≤ aim_limit → judged aim r ≡ position t → Given t
+judged_given aim (Err n) t z h e = never 8 n t e
+judged_given aim (Ok d) t z h e = by (lawful d) refl e
   where
     by : (x : Bool) → lawful d ≡ x → cond x (position (tree d.mover (2 * aim - 1) d)) (refused 9 0) ≡ position t → Given t
-    by true k q = let same : tree d.mover (2 * aim - 1) d ≡ t = cc in given_by aim d t h k same
+    by true k q = let same : tree d.mover (2 * aim - 1) d ≡ t = cc in given_by aim d t z h k same
     by false k q = never 9 0 t q
 
 set_given : (x : List ℕ) (aim : ℕ) (t : Tree) → reading_of x aim ≡ position t → Given t
 set_given x aim t e = by (nat_le 1 aim && nat_le aim aim_limit) refl e
   where
     by : (y : Bool) → (nat_le 1 aim && nat_le aim aim_limit) ≡ y → cond y (judged aim (reading form x)) (refused 7 0) ≡ position t → Given t
-    by true k q = judged_given aim (reading form x) t (leb-true aim aim_limit (and_parts (nat_le 1 aim) (nat_le aim aim_limit) k).1) q
+    by true k q =
+        let p = and_parts (nat_le 1 aim) (nat_le aim aim_limit) k in
+        judged_given aim (reading form x) t (leb-true 1 aim p.0) (leb-true aim aim_limit p.1) q
     by false k q = never 7 0 t q
 
 refusal : (x : List ℕ) (aim n k : ℕ) → reading_of x aim ≡ refused n k → Refusal x n k
@@ -235,7 +254,7 @@ chess_rules_hold = record {
   begun = begun;
   reads = λ x aim t e. (set_given x aim t e).is_tree;
   attacks = λ x aim t e. (set_given x aim t e).not_theirs;
-  closed = each (λ t. AllByRecursion IsTree (next t)) closed;
+  closed = λ t x. subst (λ (t : Tree). AllByRecursion IsTree (next t)) (sym x.is) (closed x.attacker x.plies x.diagram x.few x.lawful x.turn);
   refuses = refusal;
   over = each (λ t. ended (state t) ≡ true → length (next t) ≡ 0) over;
   alive = each (λ t. ended (state t) ≡ false → 0 < length (next t)) (λ a n d few law h. (alive a n d few law h).0);

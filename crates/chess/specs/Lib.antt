@@ -6,10 +6,15 @@ pub mod Kept
 pub mod Positions
 pub mod Setting
 pub mod Finding
-pub mod Worked
 pub mod Laws
 pub mod Codes
 pub mod Distinct
 pub mod First
 pub mod Grown
 pub mod Nth
+pub mod Turn
+pub mod Problems
+pub mod Mates
+pub mod Standing
+pub mod Fresh
+pub mod Flipped

@@ -11,14 +11,16 @@ use Rattle.chess.specs.Limits.{plies_limit}
 use Rattle.chess.specs.declared.problem.Problem.{Problem}
 use Rattle.chess.specs.declared.level.Level.{Level}
 use Rattle.chess.specs.Trees.{tree}
+use Rattle.chess.specs.Turn.{AttackersTurn}
 
--- a diagram that keeps the rules, with at most 13 plies left
+-- a diagram that keeps the rules, with at most 13 plies left, which are odd exactly when the attacker is to move
 pub record IsTree (t : Tree) : Type 0 where
   pub attacker : Side
   pub plies : ℕ
   pub diagram : Diagram
   pub few : plies ≤ plies_limit
   pub lawful : Lawful diagram
+  pub turn : AttackersTurn plies diagram.mover attacker
   pub is : t ≡ tree attacker plies diagram
 
 abbrev pub tree_of : Problem → Tree

@@ -96,6 +96,7 @@ impl Problem {
         self.standing(!able)
     }
 
+    #[tactic(auto, using(crate::specs::Grown::code_is))]
     pub(crate) fn code(&self) -> [u64; 5]
         ensures { result ≡ code (tree_of self.now) }
     {

@@ -11,9 +11,9 @@ use Rattle.chess_attacks.specs.declared.men.Kind.TheVariants.{Pawn}
 use Rattle.chess_attacks.specs.declared.men.Side.{Side}
 use Rattle.chess_attacks.specs.Men.{Squares, on, given, other, same_side, is_pawn, of}
 use Rattle.chess_attacks.specs.Lists.{line, checked}
-use Rattle.chess_attacks.specs.Commands.{Commands, Checked}
+use Rattle.chess_attacks.specs.Commands.{Reached, Commands, Checked}
 use Rattle.chess_attacks.proofs.Sides.{side-true, side_same, pawn_kind}
-use Rattle.chess_attacks.proofs.Meaning.{Run, line_run, run_line, decides_commands, checked_means}
+use Rattle.chess_attacks.proofs.Meaning.{line_run, run_line, decides_commands, checked_means}
 use Rattle.chess_moves.specs.declared.diagram.Diagram.{Diagram}
 use Rattle.chess_moves.specs.declared.step.Move.{Move}
 use Rattle.chess_moves.specs.declared.step.Promotion.{Promotion}
@@ -43,7 +43,7 @@ pub passing_from : (e : Option ℕ) (t : ℕ) → is_passing e t ≡ true → e 
 passing_from None t h = absurd (false≢true h)
 passing_from (Some s) t h = ap Some (eqb-true s t h)
 
-passing_to : (e : Option ℕ) (t : ℕ) → e ≡ Some t → is_passing e t ≡ true
+pub passing_to : (e : Option ℕ) (t : ℕ) → e ≡ Some t → is_passing e t ≡ true
 passing_to e t h = ap (λ o. is_passing o t) h ∙ eq-eqb t t refl
 
 -- a pawn's steps
@@ -59,7 +59,7 @@ module _ (b : Squares) (e : Option ℕ) (m : Man) (f t : ℕ) (f-in : f < 64) (p
   stride_most true = omega arith
   stride_most false = omega arith
 
-  by_distance : (r : Run b (forward a) f (stride a f) t) → (r.distance < 2) ⊎ (2 ≤ r.distance) → Goes b e m f t
+  by_distance : (r : Reached b (forward a) f (stride a f) t) → (r.distance < 2) ⊎ (2 ≤ r.distance) → Goes b e m f t
   by_distance r (inl l) =
       let one : r.distance ≡ 1 = omega (arith, r.some, l) in
       step p (record { OnBoard = omega (arith, r.OnBoard); target = r.target ∙ ap (away (forward a) f) one }) clear

@@ -6,3 +6,5 @@ pub mod Legality
 pub mod Order
 pub mod Bound
 pub mod Whole
+pub mod Rows
+pub mod Leaving

@@ -3,3 +3,4 @@ pub mod After
 pub mod Moves
 pub mod Legal
 pub mod Count
+pub mod Leaves

@@ -1,6 +1,7 @@
 ghost use Rattle.std.specs.Prelude.{◌≡◌};
 ghost use Rattle.chess_attacks.specs.Lists.{numbered};
 ghost use Rattle.chess_moves.specs.After.{moved, less_passed, after, played};
+ghost use Rattle.chess_moves.specs.Leaves.{Leaves, MayGo};
 
 use crate::diagram::Diagram;
 use crate::pawns::{becoming, forward, passes, takes_passing};
@@ -46,7 +47,8 @@ pub(crate) fn after(diagram: &Diagram, man: Man, step: Move) -> Board
 
 /// The diagram after a move; from an empty square nothing moves.
 pub fn play(diagram: &Diagram, step: Move) -> Diagram
-    ensures { result ≡ played diagram.now step }
+    ensures exact { result ≡ played diagram.now step }
+    ensures leaves { MayGo diagram.now step → Leaves diagram.now step result }
 {
     let Some(man) = man_on(&diagram.board, step.from) else {
         return *diagram;

@@ -1,9 +1,9 @@
-ghost use Rattle.std.specs.Prelude.{◌≡◌, MatchOption};
+ghost use Rattle.std.specs.Prelude.{◌≡◌, ◌≤◌, length, MatchOption};
 ghost use Rattle.chess_moves.specs.Legal.{Lists};
 ghost use Rattle.chess_moves.specs.Moves.{legal_moves, listed};
 ghost use Rattle.chess_rules.specs.Lawful.{Lawful};
 ghost use Rattle.chess_rules.specs.Keeping.{MovesKeep};
-ghost use Rattle.chess_rules.specs.Positions.{diagram_of, next_of};
+ghost use Rattle.chess_rules.specs.Positions.{diagram_of, next_of, LegalMoveLeaves};
 
 use crate::position::Position;
 use crate::rules::is_lawful;
@@ -31,7 +31,8 @@ impl Position {
 
     /// The position after the legal move of a number, counted from 0: none where there is no such move.
     pub fn after(&self, number: usize) -> Option<Position>
-        ensures { diagram_of result ≡ next_of self.now.diagram number }
+        ensures exact { diagram_of result ≡ next_of self.now.diagram number }
+        ensures leaves { MatchOption result (length (legal_moves self.now.diagram) ≤ number) (λ p. LegalMoveLeaves self.now.diagram number p.diagram) }
     {
         let step = self.moves().get(number)?;
         Some(Position {

@@ -1,13 +1,8 @@
 use Rattle.std.proofs.Common.{length, sym, ap, ◌∙◌}
 use Rattle.chess_moves.specs.Moves.{legal_moves}
-use Rattle.chess.specs.Grown.{count_is, choices_left, no_choices}
+use Rattle.chess.specs.Grown.{count_is, choices_left}
 use Rattle.chess.proofs.Same.{kept_tells}
 use Rattle.chess.proofs.playing.LevelPosition.count.Goals as goal
-
-pub returns-then-self-eq0 : goal.returns-then-self-eq0
-returns-then-self-eq0 c =
-    let p = c.args.self.now.problem in
-    sym (count_is p.attacker p.plies p.position.diagram ∙ ap length (no_choices p.plies p.position.diagram c.if-self-eq0.true))
 
 pub returns-in-Some : goal.returns-in-Some
 returns-in-Some c =

@@ -1,17 +1,17 @@
-use Rattle.std.proofs.Common.{◌≡◌, false, Ok, None, IsErrAnd, rules, arith}
+use Rattle.std.proofs.Common.{◌≡◌, false, Ok, None, IsErrAnd, inl, inr, rules, arith}
 use Rattle.form.specs.Forms.{reading}
 use Rattle.game.specs.Tree.{refused}
 use Rattle.game.specs.Declines.{number}
 use Rattle.chess_text.specs.Diagrams.{Stands}
 use Rattle.chess_text.specs.Reading.{form}
 use Rattle.chess.specs.Setting.{reading_of, Refuses, Aims, no_aim, no_text, no_position}
-use Rattle.chess.proofs.Set.{no_aim_is, diagram_set, declined_so, not-lawful}
+use Rattle.chess.proofs.Set.{diagram_set, declined_so, not-lawful}
 use Rattle.chess.proofs.problem.Problem.read.Goals as goal
 
 pub returns-then-aim-lt1-clause-meaning : goal.returns-then-aim-lt1-clause-meaning
 returns-then-aim-lt1-clause-meaning c =
     let e : (number c.into.result.cause ≡ 7) × (c.into.result.place ≡ 0) = c.into.ensures in
-    rw (e.0, e.1) (no_aim (no_aim_is c.args.text.now c.args.aim c.then-aim-lt1.either))
+    rw (e.0, e.1) (no_aim (λ a. let h = a.some in let k = a.few in elim c.then-aim-lt1.either [ inl z ↦ omega arith | inr z ↦ omega arith ]))
 
 pub returns-in_err-diagram-clause-meaning : goal.returns-in_err-diagram-clause-meaning
 returns-in_err-diagram-clause-meaning c =

@@ -1,1 +1,9 @@
 pub mod Led
+pub mod Passed
+pub mod Choices
+pub mod Positioned
+pub mod Forced
+pub mod Told
+pub mod Said
+pub mod Holding
+pub mod Followed

@@ -12,8 +12,8 @@ use Rattle.othello_rules.specs.declared.side.Side.TheVariants.{X, O}
 use Rattle.othello_rules.specs.declared.turn.Turn.{Turn}
 use Rattle.othello_rules.specs.declared.turn.Turn.TheVariants.{Place, Pass, Ended}
 
--- a move: its text, and the diagram that it leads to
-pub record Move : Type 0 where
+-- a branch: the text of a move, and the diagram that it leads to
+pub record Branch : Type 0 where
   pub text : List ℕ
   pub to : Diagram
 
@@ -21,19 +21,19 @@ pub record Move : Type 0 where
 abbrev pub square_text : ℕ → List ℕ
 square_text s = name_of s ++ codes "   "
 
-abbrev pub placing : Diagram → ℕ → Move
+abbrev pub placing : Diagram → ℕ → Branch
 placing d s = record { text = square_text s; to = placed d s }
 
-abbrev pub passing : Diagram → Move
+abbrev pub passing : Diagram → Branch
 passing d = record { text = codes "pass "; to = passed d }
 
 -- the placements by square, or the pass
-abbrev pub by_turn : Diagram → Turn → List Move
+abbrev pub by_turn : Diagram → Turn → List Branch
 by_turn d Place = map (placing d) (placements d)
 by_turn d Pass = passing d ∷ []
 by_turn d Ended = []
 
-unfoldable pub moves_of : Diagram → List Move
+unfoldable pub moves_of : Diagram → List Branch
 moves_of d = by_turn d (turn d)
 
 -- how many discs a side has
@@ -80,7 +80,7 @@ code_of attacker aim d = d.x ∷ d.o ∷ side_number d.mover ∷ side_number att
 abbrev pub CodesPin : Type 0
 CodesPin = (a b : Side) (m n : ℕ) (d e : Diagram) → code_of a m d ≡ code_of b n e → (a ≡ b) × (m ≡ n) × (d ≡ e)
 
-abbrev pub branches : (Diagram → Tree) → List Move → Moves
+abbrev pub branches : (Diagram → Tree) → List Branch → Moves
 branches f [] = none
 branches f (m ∷ ms) = move m.text (f m.to) (branches f ms)
 

@@ -15,7 +15,7 @@ use Rattle.othello_rules.specs.declared.side.Side.{Side}
 use Rattle.othello_rules.specs.declared.side.Side.TheVariants.{X, O}
 use Rattle.othello_rules.specs.declared.turn.Turn.{Turn}
 use Rattle.othello_rules.specs.declared.turn.Turn.TheVariants.{Place, Pass, Ended}
-use Rattle.othello.specs.Endings.{Move, placing, passing, by_turn, moves_of, state_of, code_of, due, rank_of, branches, root, grown, tree, Grows}
+use Rattle.othello.specs.Endings.{Branch, placing, passing, by_turn, moves_of, state_of, code_of, due, rank_of, branches, root, grown, tree, Grows}
 use Rattle.othello.specs.Fewer.{size_lt}
 use Rattle.othello.specs.Turns.{pass_answered}
 
@@ -101,7 +101,7 @@ all_placeable d = both (filter (placeable d) (range_with_len 0 64)) (all_kept_by
     both (x ∷ l) a b = ((a.0, b.0), both l a.1 b.1)
 
 -- what holds of every placement and of a pass holds of every move
-pub each_move : (d : Diagram) (P : Move → Type 0)
+pub each_move : (d : Diagram) (P : Branch → Type 0)
     → ((s : ℕ) → s < 64 → placeable d s ≡ true → P (placing d s)) → (turn d ≡ Pass → P (passing d)) → AllByRecursion P (moves_of d)
 unfolding moves_of
 each_move d P f g = go (turn d) refl
@@ -112,7 +112,7 @@ each_move d P f g = go (turn d) refl
     go Pass e = (g e, tt)
     go Ended e = tt
 
-abbrev Lower : Diagram → Move → Type 0
+abbrev Lower : Diagram → Branch → Type 0
 Lower d m = rank_of m.to < rank_of d
 
 pub all_lower : (d : Diagram) → AllByRecursion (Lower d) (moves_of d)
@@ -120,7 +120,7 @@ all_lower d = each_move d (Lower d) (placed_rank d) (passed_rank d)
 
 -- ---- the tree at any depth that suffices
 
-same_branches : (f g : Diagram → Tree) (l : List Move) → AllByRecursion (λ m. f m.to ≡ g m.to) l → branches f l ≡ branches g l
+same_branches : (f g : Diagram → Tree) (l : List Branch) → AllByRecursion (λ m. f m.to ≡ g m.to) l → branches f l ≡ branches g l
 same_branches f g [] a = refl
 same_branches f g (m ∷ l) a = ap₂ (λ (t : Tree) (ms : Moves). move m.text t ms) a.0 (same_branches f g l a.1)
 

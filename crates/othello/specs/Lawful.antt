@@ -26,7 +26,7 @@ use Rattle.othello.specs.Positions.{IsEnding, full, start}
 use Rattle.othello.specs.Setting.{reading_of, reading}
 use Rattle.othello.specs.Kept.{Keeps}
 use Rattle.othello.specs.Listed.{code_is, words_place, words_turn}
-use Rattle.othello.specs.Rising.{Rising, rising, one_place}
+use Rattle.othello_rules.proofs.Rising.{Rising, rising, one_place}
 use Rattle.othello.specs.Laws.{by_tree, ending, alike_self, over_at, alive_at, narrow_at, shallow_at, ranked_at, closed_at, falls_at, five_at, coded_at, attacks_at}
 
 -- ---- no two moves share a text

@@ -17,7 +17,7 @@ use Rattle.othello_rules.specs.declared.side.Side.TheVariants.{X, O}
 use Rattle.othello_rules.specs.declared.turn.Turn.{Turn}
 use Rattle.othello_rules.specs.declared.turn.Turn.TheVariants.{Place, Pass, Ended}
 use Rattle.othello.specs.Limits.{aim_limit, empties_limit, rank_limit}
-use Rattle.othello.specs.Endings.{Move, reached, to_move, state_by, due, rank_of, side_number, moves_of, tree}
+use Rattle.othello.specs.Endings.{Branch, reached, to_move, state_by, due, rank_of, side_number, moves_of, tree}
 use Rattle.othello.specs.Positions.{IsEnding}
 use Rattle.othello.specs.Fewer.{size_le}
 use Rattle.othello.specs.Turns.{some_listed}
@@ -113,7 +113,7 @@ module _ (attacker : Side) (aim : ℕ) (d : Diagram) where
 
   -- what holds of every move's outcome holds of the successors
   each_next : (P : Tree → Type 0) → AllByRecursion (λ m. P (tree attacker aim m.to)) (moves_of d) → AllByRecursion P (next (tree attacker aim d))
-  each_next P a = subst (AllByRecursion P) (sym (next_is attacker aim d)) (All-map P (λ (m : Move). tree attacker aim m.to) (moves_of d) a)
+  each_next P a = subst (AllByRecursion P) (sym (next_is attacker aim d)) (All-map P (λ (m : Branch). tree attacker aim m.to) (moves_of d) a)
 
   pub closed_at : aim ≤ aim_limit → Keeps d → AllByRecursion IsEnding (next (tree attacker aim d))
   closed_at h k =
@@ -129,7 +129,7 @@ module _ (attacker : Side) (aim : ℕ) (d : Diagram) where
   pub five_at : AllByRecursion (λ x. length x ≡ 5) (words (tree attacker aim d))
   five_at =
       subst (AllByRecursion (λ x. length x ≡ 5)) (sym (words_is attacker aim d))
-      (All-map (λ x. length x ≡ 5) (λ (m : Move). m.text) (moves_of d) (each_move d (λ m. length m.text ≡ 5) (λ s l e. refl) (λ e. refl)))
+      (All-map (λ x. length x ≡ 5) (λ (m : Branch). m.text) (moves_of d) (each_move d (λ m. length m.text ≡ 5) (λ s l e. refl) (λ e. refl)))
 
   side_small : (m : Side) → side_number m < 2 ^ 64
   side_small X = omega arith

@@ -1,7 +1,12 @@
 pub mod Limits
 pub mod Endings
+pub mod Moves
+pub mod Standing
+pub mod Forcing
 pub mod Positions
+pub mod Following
 pub mod Setting
+pub mod Fresh
 pub mod Lawful
 pub mod Grown
 pub mod Fewer
@@ -9,5 +14,4 @@ pub mod Turns
 pub mod Kept
 pub mod Apart
 pub mod Listed
-pub mod Rising
 pub mod Laws

@@ -10,6 +10,16 @@ use Rattle.othello.specs.Limits.{aim_limit, empties_limit}
 use Rattle.othello.specs.Endings.{tree}
 use Rattle.othello.specs.declared.position.Position.{Position}
 
+-- the parts of a position
+abbrev pub diagram_of : Position → Diagram
+diagram_of p = p.diagram
+
+abbrev pub attacker_of : Position → Side
+attacker_of p = p.attacker
+
+abbrev pub aim_of : Position → ℕ
+aim_of p = p.aim
+
 abbrev pub tree_of : Position → Tree
 tree_of p = tree p.attacker p.aim p.diagram
 

@@ -5,12 +5,16 @@ ghost use Rattle.othello.specs.Endings.{CodesPin, Grows};
 use game::Played;
 
 mod helpers;
+mod laws;
 mod moving;
 mod parts;
 mod playing;
 mod position;
 mod setting;
 
+pub use laws::{
+    fresh_is_its_text, minimax_is_forcing, play_follows, reading_sets, trees_are_positions,
+};
 pub use parts::current;
 pub use position::Position;
 pub use setting::set_up;

@@ -25,6 +25,7 @@ impl Position {
     }
 
     /// The position after a pass.
+    #[tactic(auto, using(crate::proofs::Passed::passed_apart, crate::proofs::Passed::passed_board, crate::proofs::Passed::passed_few))]
     pub(crate) fn pass(&self) -> Position
         ensures diagram { result.diagram ≡ passed self.now.diagram }
         ensures attacker { result.attacker ≡ self.now.attacker }

@@ -1,7 +1,13 @@
-ghost use Rattle.std.specs.Prelude.{◌≡◌};
+ghost use Rattle.std.specs.Prelude.{◌≡◌, ◌<◌, ◌≤◌, List, length, map, Some, MatchOption, MatchResult, slice_index_or};
+ghost use Rattle.std.specs.List.{slice_get};
+ghost use Rattle.game.specs.Tree.{position, refused, nowhere, state, rank, code, next, words};
+ghost use Rattle.game.specs.Declines.{number};
+ghost use Rattle.othello.specs.Fresh.{fresh_text};
 ghost use Rattle.othello.specs.Limits.{empties_limit, rank_limit};
-ghost use Rattle.othello.specs.Positions.{IsEnding, start, tree_of};
-ghost use Rattle.othello.specs.Setting.{reading};
+ghost use Rattle.othello.specs.Moves.{Move, text_of, Becomes, HasMoves};
+ghost use Rattle.othello.specs.Positions.{IsEnding, start, tree_of, diagram_of, attacker_of, aim_of};
+ghost use Rattle.othello.specs.Setting.{reading, Taken, Declined};
+ghost use Rattle.othello.specs.Standing.{HasState, HasRank};
 ghost use Rattle.othello.specs.Lawful;
 ghost use Rattle.othello.specs.Laws.{ending};
 
@@ -37,7 +43,10 @@ impl game::Position for Position {
     ghost within = { λ p. ending p.attacker p.aim p.diagram p.within (record { apart = p.apart; board = p.board; few = p.few }) };
 
     // Every square has an X, X is to move and attacks, and the aim is 0.
-    fn fresh() -> Self {
+    fn fresh() -> Self
+        ensures exact { tree_of result ≡ start }
+        ensures meaning { Taken fresh_text 0 result }
+    {
         Position {
             diagram: Diagram {
                 x: u64::MAX,
@@ -49,12 +58,22 @@ impl game::Position for Position {
         }
     }
 
-    fn read(text: &[u8], aim: u32) -> Result<Self, SetDecline> {
+    fn read(text: &[u8], aim: u32) -> Result<Self, SetDecline>
+        ensures exact { MatchResult result
+            (λ p. reading text.now aim ≡ position (tree_of p))
+            (λ e. reading text.now aim ≡ refused (number e.cause) e.place) }
+        ensures meaning { MatchResult result
+            (λ p. Taken text.now aim p)
+            (λ e. Declined text.now aim (number e.cause) e.place) }
+    {
         set_up(text, aim)
     }
 
     // Who is to move, or at the end who has won.
-    fn state(&self) -> State {
+    fn state(&self) -> State
+        ensures exact { result ≡ state (tree_of self.now) }
+        ensures meaning { HasState (attacker_of self.now) (aim_of self.now) (diagram_of self.now) result }
+    {
         match self.diagram.turn() {
             Turn::Place | Turn::Pass => to_move(self.attacker, self.diagram.mover),
             Turn::Ended => {
@@ -67,7 +86,10 @@ impl game::Position for Position {
         }
     }
 
-    fn count(&self) -> usize {
+    fn count(&self) -> usize
+        ensures exact { result ≡ length (next (tree_of self.now)) }
+        ensures meaning { (vs : List Move) × HasMoves (diagram_of self.now) vs × (result ≡ length vs) }
+    {
         match self.diagram.turn() {
             Turn::Place => self.diagram.placements().count(),
             Turn::Pass => 1,
@@ -76,7 +98,10 @@ impl game::Position for Position {
     }
 
     // A placement and a pass for each empty square at most, and a pass that is due.
-    fn rank(&self) -> usize {
+    fn rank(&self) -> usize
+        ensures exact { result ≡ rank (tree_of self.now) }
+        ensures meaning { HasRank (diagram_of self.now) result }
+    {
         2 * self.diagram.empties() as usize + due(self.diagram.turn())
     }
 
@@ -91,7 +116,10 @@ impl game::Position for Position {
         ]
     }
 
-    fn text(&self, i: usize) -> Option<[u8; 5]> {
+    fn text(&self, i: usize) -> Option<[u8; 5]>
+        ensures exact { result ≡ slice_get (words (tree_of self.now)) i }
+        ensures meaning { (vs : List Move) × HasMoves (diagram_of self.now) vs × (result ≡ slice_get (map text_of vs) i) }
+    {
         match self.diagram.turn() {
             Turn::Place => {
                 let square = self.diagram.placements().get(i)?;
@@ -102,7 +130,16 @@ impl game::Position for Position {
         }
     }
 
-    fn after(&self, i: usize) -> Option<Self> {
+    fn after(&self, i: usize) -> Option<Self>
+        ensures exact { MatchOption result
+            (length (next (tree_of self.now)) ≤ i)
+            (λ p. (i < length (next (tree_of self.now)))
+            × (tree_of p ≡ slice_index_or (next (tree_of self.now)) i nowhere)) }
+        ensures meaning { (vs : List Move) × HasMoves (diagram_of self.now) vs × MatchOption result
+            (length vs ≤ i)
+            (λ p. (v : Move) × (Some v ≡ slice_get vs i) × Becomes (diagram_of self.now) v (diagram_of p)
+            × (attacker_of p ≡ attacker_of self.now) × (aim_of p ≡ aim_of self.now)) }
+    {
         match self.diagram.turn() {
             Turn::Place => {
                 let square = self.diagram.placements().get(i)?;

@@ -54,7 +54,7 @@ away-none NorthWest s h = omega arith
 away-none SouthEast s h = omega arith
 away-none SouthWest s h = omega arith
 
-away-below : (d : Direction) (s k : ℕ) → s < 64 → k < reach d s → away d s (k + 1) < 64
+pub away-below : (d : Direction) (s k : ℕ) → s < 64 → k < reach d s → away d s (k + 1) < 64
 away-below East s k h r = omega arith
 away-below West s k h r = omega arith
 away-below North s k h r = omega arith

@@ -5,4 +5,8 @@ pub mod ByWords
 pub mod Filtered
 pub mod Sizes
 pub mod Ruled
+pub mod Rising
+pub mod Legality
+pub mod Turned
 pub mod Meaning
+pub mod Departed

@@ -1,6 +1,7 @@
 pub mod Rules
 pub mod Turning
 pub mod Diagrams
+pub mod Legal
 pub mod Lists
 pub mod Letters
 pub mod Texts

@@ -15,6 +15,7 @@ mod turn;
 pub use diagram::Diagram;
 pub use flips::{placing_holds, turning_holds};
 pub use placements::Placements;
+pub use placing::placements_leave_one;
 pub use reading::read;
 pub use side::Side;
 pub use turn::Turn;

@@ -1,7 +1,8 @@
-ghost use Rattle.std.specs.Prelude.{◌≡◌, ◌<◌, ◌≤◌, length, map, MatchOption, slice_index};
+ghost use Rattle.std.specs.Prelude.{◌≡◌, ◌<◌, ◌≤◌, length, map, Decides, MatchOption, slice_index};
 ghost use Rattle.othello_rules.specs.Rules.{any};
 ghost use Rattle.board.specs.Masks.{bit, size};
 ghost use Rattle.othello_rules.specs.Diagrams.{discs, empties, placements, turn};
+ghost use Rattle.othello_rules.specs.Legal.{CanPlace, Lists, HasTurn};
 ghost use Rattle.othello_rules.specs.Lists.{listed, number_of};
 
 use crate::{Diagram, Placements, Side, Turn};
@@ -37,7 +38,8 @@ impl Placements {
 impl Diagram {
     /// The squares where the mover may place a disc, in rising order.
     pub fn placements(&self) -> Placements
-        ensures { listed result ≡ placements self.now }
+        ensures exact { listed result ≡ placements self.now }
+        ensures meaning { Lists self.now (listed result) }
     {
         let mut squares = ArrayVec::new();
         for square in Square::all() {
@@ -50,14 +52,16 @@ impl Diagram {
 
     /// Whether the mover may place a disc anywhere.
     pub fn can_place(&self) -> bool
-        ensures { result ≡ any (placements self.now) }
+        ensures exact { result ≡ any (placements self.now) }
+        ensures meaning { Decides result (CanPlace self.now.mover self.now) }
     {
         Square::all().any(|square| self.legal(square))
     }
 
     /// Whether the mover may place a disc, has to pass, or the game has ended.
     pub fn turn(&self) -> Turn
-        ensures { result ≡ turn self.now }
+        ensures exact { result ≡ turn self.now }
+        ensures meaning { HasTurn self.now result }
     {
         if self.can_place() {
             Turn::Place

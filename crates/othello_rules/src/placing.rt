@@ -1,6 +1,7 @@
-ghost use Rattle.std.specs.Prelude.{◌≡◌, if◌then◌else◌, Some, None};
+ghost use Rattle.std.specs.Prelude.{◌≡◌, if◌then◌else◌, Some, None, Decides, MatchOption};
 ghost use Rattle.board.specs.Masks.{mask};
 ghost use Rattle.othello_rules.specs.Diagrams.{opponent, discs, disc_at, moved, turns, placeable, placed, passed};
+ghost use Rattle.othello_rules.specs.Legal.{Legal, Leaves, Passes, LeavesOne};
 
 use crate::roles::Roles;
 use crate::{Diagram, Side};
@@ -62,7 +63,8 @@ impl Diagram {
 
     /// The same discs, with the other side to move.
     pub fn passed(&self) -> Diagram
-        ensures { result ≡ passed self.now }
+        ensures exact { result ≡ passed self.now }
+        ensures meaning { Passes self.now result }
     {
         Diagram {
             mover: self.mover.opponent(),
@@ -94,14 +96,18 @@ impl Diagram {
 
     /// Whether the mover may place a disc on the square.
     pub fn legal(&self, square: Square) -> bool
-        ensures { result ≡ placeable self.now square.number }
+        ensures exact { result ≡ placeable self.now square.number }
+        ensures meaning { Decides result (Legal self.now.mover self.now square.number) }
     {
         self.turned(square) != 0
     }
 
     /// The diagram after a disc of the mover was placed on the square, or none where that is not legal.
     pub fn place(&self, square: Square) -> Option<Diagram>
-        ensures { result ≡ (if placeable self.now square.number then Some (placed self.now square.number) else None) }
+        ensures exact { result ≡ (if placeable self.now square.number then Some (placed self.now square.number) else None) }
+        ensures meaning { MatchOption result
+            (Legal self.now.mover self.now square.number → ⊥)
+            (λ d. Legal self.now.mover self.now square.number × Leaves self.now square.number d) }
     {
         let turned = self.turned(square);
         if turned == 0 {
@@ -115,3 +121,8 @@ impl Diagram {
         Some(after.moved(self.mover))
     }
 }
+
+/// What a placement leaves is one diagram.
+pub fn placements_leave_one()
+    ensures { LeavesOne }
+{}

@@ -24,7 +24,7 @@ from [] a i r h = absurd (omega arith)
 from (x ∷ xs) a zero r h = r.0
 from (x ∷ xs) a (suc i) r h = omega (arith, r.0, from xs (x + 1) i r.1 (omega arith))
 
-less : (l : List ℕ) (a i j : ℕ) → Rising a l → i < j → j < length l → slice_index l i < slice_index l j
+pub less : (l : List ℕ) (a i j : ℕ) → Rising a l → i < j → j < length l → slice_index l i < slice_index l j
 less [] a i j r h k = absurd (omega arith)
 less (x ∷ xs) a i zero r h k = absurd (omega arith)
 less (x ∷ xs) a zero (suc j) r h k = omega (arith, from xs (x + 1) j r.1 (omega arith))

@@ -1,3 +1,6 @@
+pub mod Outcomes
 pub mod Ended
-pub mod Mated
-pub mod Passed
+pub mod Solved
+pub mod Chess
+pub mod Othello
+pub mod Verdicts

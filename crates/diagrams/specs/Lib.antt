@@ -1,2 +1,4 @@
-pub mod Mates
-pub mod Endings
+pub mod Outcomes
+pub mod Chess
+pub mod Othello
+pub mod Verdicts

@@ -56,7 +56,7 @@ module _ (b : Squares) (e : Option ℕ) (m : Man) (f : ℕ) where
   abbrev going : ℕ → Bool → Bool → Bool
   going t x y = cond (is_pawn m.kind) ((y && empty (on b t)) || (x && (of (other m.side) (on b t) || is_passing e t))) (x && not (of m.side (on b t)))
 
-  to_same : (p q r s : ℕ → Bool) (n : ℕ) → ((t : ℕ) → p t ≡ r t) → ((t : ℕ) → q t ≡ s t) → moves_to b e m p q f n ≡ moves_to b e m r s f n
+  pub to_same : (p q r s : ℕ → Bool) (n : ℕ) → ((t : ℕ) → p t ≡ r t) → ((t : ℕ) → q t ≡ s t) → moves_to b e m p q f n ≡ moves_to b e m r s f n
   unfolding moves_to
   to_same p q r s zero h k = refl
   to_same p q r s (suc n) h k =

@@ -22,7 +22,7 @@ has_some : (vs : List Move) (v : Move) → Has vs v → any_move vs ≡ true
 has_some [] v h = absurd (let z : ⊥ = omega (arith, h.1) in z)
 has_some (w ∷ vs) v h = refl
 
-any_means : (d : Diagram) → Decides (any_move (legal_moves d)) ((v : Move) × Legal d v)
+pub any_means : (d : Diagram) → Decides (any_move (legal_moves d)) ((v : Move) × Legal d v)
 any_means d = (some_has (Legal d) (legal_moves d) (listed_legal d), λ r. has_some (legal_moves d) r.0 (legal_listed d r.0 r.1))
 
 pub any_means_by : (d : Diagram) (r : Bool) → r ≡ any_move (legal_moves d) → Decides r ((v : Move) × Legal d v)

@@ -75,7 +75,7 @@ passing_of d = numbered d.passing
 
 -- what a list of moves holds
 abbrev pub listed : MoveList → List Move
-listed l = l.moves.items
+listed l = take l.count l.moves
 
 -- where n moves fit, r is the list l with the moves vs added as far as there is room
 pub record Adds (n : ℕ) (l vs r : List Move) : Type 0 where

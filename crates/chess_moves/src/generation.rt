@@ -140,9 +140,7 @@ pub fn moves(diagram: &Diagram) -> MoveList
         → 1 ≤ kings diagram.now.board diagram.now.mover → listed result ≡ legal_moves diagram.now }
     ensures legal { Lists diagram.now (legal_moves diagram.now) }
 {
-    MoveList {
-        moves: first_moves(diagram),
-    }
+    MoveList::new(&first_moves(diagram))
 }
 
 /// Whether there is a legal move.

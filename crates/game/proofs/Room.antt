@@ -1,12 +1,12 @@
 -- A path whose positions fall in rank always has room for one more move.
-use Rattle.std.proofs.Common.{◌≡◌, ℕ, [], refl, ap, ◌∙◌, ◌+◌, ◌<◌, ◌≤◌, true, leb, List, ◌∷◌, map, length, Ok, Err, Result, MatchResult, IsOk, rules, arith}
+use Rattle.std.proofs.Common.{◌≡◌, ℕ, [], refl, sym, ap, ◌∙◌, ◌+◌, ◌<◌, ◌≤◌, true, leb, List, ◌∷◌, map, length, Ok, Err, Result, MatchResult, Some, None, Option, MatchOption, IsOk, rules, arith}
 use Rattle.std.proofs.lemmas.Bool.{leb-true, le-leb, and_parts, and_from}
 use Rattle.std.proofs.lemmas.List.{length-map}
 use Rattle.game.specs.declared.path.Path.{Path}
 use Rattle.game.specs.Limits.{depth_limit}
 use Rattle.game.specs.Paths.{before, roomy, ranks}
 
-roomy_free : (q r : ℕ) (rs : List ℕ) → roomy (r ∷ rs) ≡ true → q < r → length rs < depth_limit
+pub roomy_free : (q r : ℕ) (rs : List ℕ) → roomy (r ∷ rs) ≡ true → q < r → length rs < depth_limit
 roomy_free q r rs e h =
     let k = leb-true (r + length rs) depth_limit (and_parts (leb (r + length rs) depth_limit) (roomy rs) e).0 in
     omega arith
@@ -49,3 +49,13 @@ pub room_after : {P : Type 0} (rank : P → ℕ) (p q : Path P) (next : P) (r : 
     → roomy (ranks rank p) ≡ true → rank next < rank p.current → roomy (ranks rank q) ≡ true
 room_after rank p q next (Ok u) m e less = goes_on rank p q e (omega (arith, less, ap rank m.1)) m.2
 room_after rank p q next (Err x) m e less = (λ i. roomy (map rank (m.1 i ∷ m.2 i))) ∙ e
+
+pub roomy_less : (r : ℕ) (rs : List ℕ) → roomy (r ∷ rs) ≡ true → roomy rs ≡ true
+roomy_less r rs e = (and_parts (leb (r + length rs) depth_limit) (roomy rs) e).1
+
+-- and there is room after a way back, where there is one
+pub left : {P : Type 0} (rank : P → ℕ) (p q : Path P) (r : Option P)
+    → MatchOption r ((before p ≡ []) × (q.current ≡ p.current) × (before q ≡ [])) (λ x. (before p ≡ q.current ∷ before q) × (x ≡ p.current))
+    → roomy (ranks rank p) ≡ true → roomy (ranks rank q) ≡ true
+left rank p q None m e = ap (λ ps. roomy (map rank (q.current ∷ ps))) (m.2 ∙ sym m.0) ∙ ap (λ x. roomy (map rank (x ∷ before p))) m.1 ∙ e
+left rank p q (Some x) m e = ap (λ ps. roomy (map rank ps)) (sym m.0) ∙ roomy_less (rank p.current) (map rank (before p)) e

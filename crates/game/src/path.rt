@@ -1,4 +1,5 @@
-ghost use Rattle.std.specs.Prelude.{◌≡◌, length};
+ghost use Rattle.std.specs.Prelude.{◌≡◌, ◌≤◌, length};
+ghost use Rattle.game.specs.Limits.{depth_limit};
 ghost use Rattle.game.specs.Places.{held};
 
 use arrayvec::ArrayVec;
@@ -13,4 +14,5 @@ pub struct Path<P> {
     pub(crate) current: P,
     pub(crate) earlier: ArrayVec<Option<P>, DEPTH_LIMIT>,
     ghost none_empty: { length (held earlier.items) ≡ length earlier.items },
+    ghost room: { length earlier.items ≤ depth_limit },
 }

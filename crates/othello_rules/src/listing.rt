@@ -9,14 +9,27 @@ use crate::{Diagram, Placements, Side, Turn};
 use arrayvec::ArrayVec;
 use board::Square;
 
-// What a list promises in the words of squares; the bodies are the vector's. One type for squares and for the moves of chess would promise
-// neither in its words, so these few lines stand in both crates.
+// What a list promises in the words of squares. One type for squares and for the moves of chess would promise neither in its words, so these
+// few lines stand in both crates.
 impl Placements {
+    /// The squares of a vector.
+    pub(crate) fn new(squares: &ArrayVec<Square, 64>) -> Placements
+        ensures { listed result ≡ map number_of squares.now.items }
+    {
+        let count = squares.len();
+        let mut places = [Square::default(); 64];
+        places[..count].copy_from_slice(squares.as_slice());
+        Placements {
+            squares: places,
+            count,
+        }
+    }
+
     /// How many squares there are.
     pub fn count(&self) -> usize
         ensures { result ≡ length (listed self.now) }
     {
-        self.squares.len()
+        self.count
     }
 
     /// The square of a number, counted from 0: none where there are not so many.
@@ -24,14 +37,14 @@ impl Placements {
         ensures { MatchOption result (length (listed self.now) ≤ i)
             (λ s. (i < length (listed self.now)) × (s.number ≡ slice_index (listed self.now) i)) }
     {
-        self.squares.get(i).copied()
+        self.as_slice().get(i).copied()
     }
 
     /// The squares as a slice.
     pub fn as_slice(&self) -> &[Square]
         ensures { map number_of result.now ≡ listed self.now }
     {
-        self.squares.as_slice()
+        &self.squares[..self.count]
     }
 }
 
@@ -47,7 +60,7 @@ impl Diagram {
                 squares.push(square);
             }
         }
-        Placements { squares }
+        Placements::new(&squares)
     }
 
     /// Whether the mover may place a disc anywhere.

@@ -6,7 +6,7 @@ use Rattle.chess_moves.proofs.Whole.{lists}
 use Rattle.chess_moves.proofs.generation.moves.Goals as goal
 
 pub returns-clause-all : goal.returns-clause-all
-returns-clause-all c = λ h k. c.first_moves.ensures ∙ take_all 415 (legal_moves c.args.diagram.now) (omega (arith, few-moves c.args.diagram.now h k))
+returns-clause-all c = λ h k. c.new.ensures ∙ c.first_moves.ensures ∙ take_all 415 (legal_moves c.args.diagram.now) (omega (arith, few-moves c.args.diagram.now h k))
 
 pub returns-clause-legal : goal.returns-clause-legal
 returns-clause-legal c = lists c.args.diagram.now

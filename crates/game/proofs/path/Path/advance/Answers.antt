@@ -5,10 +5,8 @@ use Rattle.game.specs.Paths.{before}
 use Rattle.game.proofs.Places.{as_many, pushed, latest}
 use Rattle.game.proofs.path.Path.advance.Goals as goal
 
-pub invariant_of-self : goal.invariant_of-self
-invariant_of-self g c = record {
-  none_empty = pushed c.args.self.now.earlier.items c.push.new.self.items c.replace-left.result c.push.ensures.items c.args.self.now.none_empty;
-}
+pub invariant_of-self-clause-none_empty : goal.invariant_of-self-clause-none_empty
+invariant_of-self-clause-none_empty g c = pushed c.args.self.now.earlier.items c.push.new.self.items c.replace-left.result c.push.ensures.items c.args.self.now.none_empty
 
 pub returns : goal.returns
 returns g c =

@@ -11,11 +11,10 @@ pub returns-in_err-latest : goal.returns-in_err-latest
 returns-in_err-latest g c =
     absurd (never_empty c.pop.new.self.items c.args.self.now.earlier.items (c.in_ok-pop.ensures.items ∙ ap (λ o. c.pop.new.self.items ++ (o ∷ [])) c.in_err-latest.was) c.args.self.now.none_empty)
 
-pub invariant_of-self-2 : goal.invariant_of-self-2
-invariant_of-self-2 g c = record {
-  none_empty = popped c.pop.new.self.items c.args.self.now.earlier.items c.in_ok-latest.latest
-      (c.in_ok-pop.ensures.items ∙ ap (λ o. c.pop.new.self.items ++ (o ∷ [])) c.in_ok-latest.was) c.args.self.now.none_empty;
-}
+pub invariant_of-self-2-clause-none_empty : goal.invariant_of-self-2-clause-none_empty
+invariant_of-self-2-clause-none_empty g c =
+    popped c.pop.new.self.items c.args.self.now.earlier.items c.in_ok-latest.latest
+    (c.in_ok-pop.ensures.items ∙ ap (λ o. c.pop.new.self.items ++ (o ∷ [])) c.in_ok-latest.was) c.args.self.now.none_empty
 
 pub returns : goal.returns
 returns g c = (

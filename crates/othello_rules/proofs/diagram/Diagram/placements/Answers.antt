@@ -21,5 +21,5 @@ pub returns : goal.returns
 unfolding placements
 returns c =
     let d = c.args.self.now in
-    let e = c.loop-square.invariant.numbers ∙ ap (λ (k : ℕ). filter (placeable d) (range_with_len 0 k)) c.in-None.ensures.steps.0 in
+    let e = c.new.ensures ∙ c.loop-square.invariant.numbers ∙ ap (λ (k : ℕ). filter (placeable d) (range_with_len 0 k)) c.in-None.ensures.steps.0 in
     record { exact = e; meaning = subst (Lists d) (sym e) (lists d) }

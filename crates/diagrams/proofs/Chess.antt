@@ -31,7 +31,7 @@ use Rattle.diagrams.specs.Chess.{one_key_text, one_key, one_key_tree, four_keys_
 use Rattle.tester.specs.Claims.{OneWay}
 use Rattle.diagrams.specs.Outcomes.{Sets}
 use Rattle.diagrams.proofs.Outcomes.{sets_up, turns_down, tried, written}
-use Rattle.diagrams.proofs.Solved.{Shows, count, accepts, solved}
+use Rattle.diagrams.proofs.Solved.{Shows, count, state_after, accepts, solved}
 
 -- what is set up of a text that says a lawful diagram
 set_up : (x : List ℕ) (aim : ℕ) (d : Diagram) → (nat_le 1 aim && nat_le aim aim_limit) ≡ true → reading form x ≡ Ok d → lawful d ≡ true →
@@ -79,7 +79,7 @@ one_key_shows : Shows one_key_tree one_key_states one_key_words
 unfolding tree state_of moves_from moves_to tries one after checked attacked attackers lines line leaps member
 one_key_shows = (refl, refl, refl)
 
-abbrev one_key_lines : List Line
+abbrev pub one_key_lines : List Line
 one_key_lines = chosen_line 1 (codes "a1a8 ") ∷ []
 
 -- four keys
@@ -95,7 +95,7 @@ four_keys_shows : Shows four_keys_tree four_keys_states four_keys_words
 unfolding tree state_of moves_from moves_to tries one after checked attacked attackers lines line leaps member
 four_keys_shows = (refl, refl, refl)
 
-abbrev four_keys_lines : List Line
+abbrev pub four_keys_lines : List Line
 four_keys_lines =
     chosen_line 1 (codes "g6g7 ") ∷ other_line 1 (codes "g6h5 ") ∷ other_line 1 (codes "g6h6 ") ∷ other_line 1 (codes "g6g8 ") ∷ []
 
@@ -129,6 +129,7 @@ module _ {G T : Type 0} (g : game.Ghosts G) (h : table.Ghosts T) (one_way : OneW
     one_key_set = taken one_key_text 1 one_key refl one_key_read one_key_lawful;
     one_key_count = count one_key_tree one_key_states one_key_words one_key_shows;
     one_key_move = ap (λ (xs : List (List ℕ)). get_or xs 11 []) one_key_shows.2;
+    one_key_mates = ap word (state_after one_key_tree 11 one_key_states one_key_words one_key_shows);
     one_key_solved =
         written g h one_way one_key_tree 11 one_key_lines (codes "01!a1a8 ") (accepts one_key_tree 11 one_key_states one_key_words one_key_shows refl)
         (solved h.storing one_key_tree 11 one_key_states one_key_words one_key_lines one_key_shows refl refl refl refl (lit≤ tt)) (λ before. refl);

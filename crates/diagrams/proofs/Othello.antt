@@ -145,8 +145,8 @@ module _ {G T : Type 0} (g : game.Ghosts G) (h : table.Ghosts T) (one_way : OneW
         let z = twice before in
         let first : Trial h.storing s.standing to_pass 4 (not_won_after 2 0) z.0 = subst (λ (x : h.storing.Standing). Trial h.storing x to_pass 4 (not_won_after 2 0) z.0) (sym c) z.1 in
         let s' : Stand h = record { current = s.current; earlier = s.earlier; standing = z.0 } in
-        from s 4 (not_won_after 2 0) z.0 (λ s'. Tries g h s' 4 (codes "not-won") 0 0 (λ s''. Unit {0})) e (lit≤ tt) first
-        (from s' 4 (not_won_after 0 0) z.0 (λ s''. Unit {0}) e (lit≤ tt) z.2 tt);
+        from s 4 (not_won_after 2 0) z.0 (λ s'. Tries g h s' 4 (codes "not-won") 0 0 (λ s''. s'' ≡ s')) e (lit≤ tt) first
+        (from s' 4 (not_won_after 0 0) z.0 (λ s''. s'' ≡ s') e (lit≤ tt) z.2 refl);
   }
 
 -- the trials of the two tables

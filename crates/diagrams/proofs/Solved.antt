@@ -26,6 +26,10 @@ state_at (t ∷ ts) (suc i) = state_at ts i
 pub count : (t : Tree) (ss : List State) (xs : List (List ℕ)) → Shows t ss xs → length (next t) ≡ length ss
 count t ss xs h = sym (length-map (next t) state) ∙ ap (λ (vs : List State). length vs) h.1
 
+-- the state of the position after a move
+pub state_after : (t : Tree) (i : ℕ) (ss : List State) (xs : List (List ℕ)) → Shows t ss xs → state (get_or (next t) i nowhere) ≡ get_or ss i NotWon
+state_after t i ss xs h = state_at (next t) i ∙ ap (λ (vs : List State). get_or vs i NotWon) h.1
+
 -- it is not declined where the number is one of a move
 pub accepts : (t : Tree) (i : ℕ) (ss : List State) (xs : List (List ℕ)) → Shows t ss xs → nat_le (length ss) i ≡ false → declined t i 0 records_needed buffer_limit ≡ None
 accepts t i ss xs h n =
@@ -43,6 +47,6 @@ solved S t i ss xs ls h e n g l r standing b =
     let same : wins 1 i ws (words t) ≡ ls = ap (wins 1 i ws) h.2 ∙ l in
     let first : best (Some i) ws ≡ Some i = ap (λ (c : Bool). cond c (Some i) (first_win ws)) g in
     let fits : length (wins 1 i ws (words t)) ≤ 4096 = subst (λ (ks : List Line). length ks ≤ 4096) (sym same) r in
-    let end : state (get_or (next t) i nowhere) ≡ Won = state_at (next t) i ∙ ap (λ (vs : List State). get_or vs i NotWon) h.1 ∙ n in
+    let end : state (get_or (next t) i nowhere) ≡ Won = state_after t i ss xs h ∙ n in
     subst (λ (ks : List Line). Solution S b i t standing 4096 (record { ending = Done; lines = ks; sum = 0 }) standing) (append-nil (wins 1 i ws (words t)) ∙ same)
     (win h.0 all first fits (won end refl))

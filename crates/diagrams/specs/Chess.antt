@@ -1,7 +1,7 @@
 -- Chess diagrams: two mates in one, with what a solution writes, wherever the table stands and whatever the budget is; a stalemate; and aims
 -- and texts that are taken and declined.
 use Rattle.std.specs.Prelude.{◌≡◌, ℕ, ◌≤◌, List, [], length, replicate, Some, None, codes, slice_index_or, slice_set}
-use Rattle.game.specs.Tree.{Tree, state, next, words}
+use Rattle.game.specs.Tree.{Tree, state, nowhere, next, words}
 use Rattle.game.specs.States.{word}
 use Rattle.game.specs.declared.game.Game as game
 use Rattle.table.specs.declared.Table as table
@@ -61,6 +61,7 @@ pub record ChessDiagrams {G T : Type 0} (g : game.Ghosts G) (h : table.Ghosts T)
   pub one_key_set : Sets g h one_key_text 1 one_key_tree
   pub one_key_count : length (next one_key_tree) ≡ 17
   pub one_key_move : slice_index_or (words one_key_tree) 11 [] ≡ codes "a1a8 "
+  pub one_key_mates : word (state (slice_index_or (next one_key_tree) 11 nowhere)) ≡ codes "won"
   pub one_key_solved : Writes g h one_key_tree 11 (codes "01!a1a8 ") 1 1 0 0
   -- four keys
   pub four_keys_set : Sets g h four_keys_text 1 four_keys_tree

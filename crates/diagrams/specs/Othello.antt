@@ -61,7 +61,8 @@ pub record TrialsWithNone {G T : Type 0} (g : game.Ghosts G) (h : table.Ghosts T
   pub three : (s : Stand h) → AtPass s → Tries g h s 3 (codes "not-won") 1 2 (λ s'. Unit {0})
   pub two : (s : Stand h) → AtPass s → Tries g h s 2 (codes "spent") 1 1 (λ s'. Unit {0})
 
--- With the newest policy: from a table that was cleared, the trial within a budget of 4, made twice.
+-- With the newest policy: from a table that was cleared, the trial within a budget of 4, made twice; the second leaves the table where it
+-- stood.
 pub record TrialsWithNewest {G T : Type 0} (g : game.Ghosts G) (h : table.Ghosts T) : Type 0 where
   pub twice : (s : Stand h) (before : h.storing.Standing) → AtPass s → s.standing ≡ h.storing.cleared before →
-      Tries g h s 4 (codes "not-won") 2 0 (λ s'. Tries g h s' 4 (codes "not-won") 0 0 (λ s''. Unit {0}))
+      Tries g h s 4 (codes "not-won") 2 0 (λ s'. Tries g h s' 4 (codes "not-won") 0 0 (λ s''. s'' ≡ s'))

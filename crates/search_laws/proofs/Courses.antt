@@ -12,7 +12,7 @@ use Rattle.search_laws.specs.declared.thresholds.Thresholds.{Thresholds}
 use Rattle.search_laws.specs.Run.{mover, OwnPair, Reached, Below, tops, listed, taken, taken_thresholds, replaced, Outcome, stopped, gave, Enters, none_left, counted, Works, gives, stops, works_on}
 use Rattle.search_laws.specs.Trial.{pair_of, known, need, half, share, Trial, at_once, by_the_run, by_the_search, spent}
 use Rattle.search_laws.specs.Words.{word, value_word}
-use Rattle.search_laws.specs.Claims.{Ranging, RunsLast, VerdictsLast, OnePair, RunsAgree, TrialsAgree, RunsEnd}
+use Rattle.search_laws.specs.Claims.{Ranging, RunsLast, VerdictsLast, OnePair, RunsAgree, FramesAgree, TrialsAgree, RunsEnd, FramesEnd}
 use Rattle.search_laws.proofs.Counting.{seen, never_both, frames_count_within}
 use Rattle.search_laws.proofs.Trials.{same_verdict, trials_are_right_lem, never_value}
 
@@ -73,6 +73,9 @@ module _ (S : Storing) where
   pub runs_agree : RunsAgree S
   runs_agree standing left t l o o' e e' = enters_agree e o' e'
 
+  pub frames_agree : FramesAgree S
+  frames_agree standing left t l ps o o' w w' = works_agree w o' w'
+
   -- a frame ends, by the expansions left
   Ends : ℕ → Type 0
   Ends n = (standing : S.Standing) (left : ℕ) (t : Tree) (l : Thresholds) (ps : List Pair) → left ≤ n → (o : Outcome S.Standing) × Works S standing left t l ps o
@@ -102,6 +105,10 @@ module _ (S : Storing) where
   ends n standing zero t l ps h = last_work standing t l ps (seen l (pair_for t ps))
   ends zero standing (suc left) t l ps h = absurd (omega arith)
   ends (suc n) standing (suc left) t l ps h = more_work n (ends n) standing left t l ps (omega arith) (seen l (pair_for t ps))
+
+  pub frames_end : FramesEnd S
+  unfolding Ends
+  frames_end standing left t l ps = ends left standing left t l ps (omega arith)
 
   pub runs_end : RunsEnd S
   unfolding Ends

@@ -20,7 +20,7 @@ pub laws_kept : LawsKept
 unfolding keeps
 laws_kept = (refl, refl, refl)
 
-abbrev answer : Verdict → ℕ → ℕ → Answer
+abbrev pub answer : Verdict → ℕ → ℕ → Answer
 answer v x e = record { verdict = v; expansions = x; entries = e }
 
 as_said : {S : Storing} {standing standing' : S.Standing} {t : Tree} {b : ℕ} (v : Verdict) (x e : ℕ) →

@@ -10,7 +10,7 @@ use Rattle.table.specs.Pairs.{Shown, won, not_won, own}
 use Rattle.table.specs.Storings.{Storing}
 use Rattle.search_laws.specs.declared.answer.Answer.{Answer}
 use Rattle.search_laws.specs.declared.thresholds.Thresholds.{Thresholds}
-use Rattle.search_laws.specs.Run.{mover, OwnPair, Reached, Below, chosen, taken, taken_thresholds, replaced, tops, Outcome, stopped, gave, Enters}
+use Rattle.search_laws.specs.Run.{mover, OwnPair, Reached, Below, chosen, taken, taken_thresholds, replaced, tops, Outcome, stopped, gave, Enters, Works}
 use Rattle.search_laws.specs.Entered.{frames, left_after}
 use Rattle.search_laws.specs.Trial.{Trial, known, need, half, share}
 use Rattle.search_laws.specs.Words.{word}
@@ -123,6 +123,12 @@ RunsAgree S =
     (standing : S.Standing) (left : ℕ) (t : Tree) (l : Thresholds) (o o' : Outcome S.Standing) →
     Enters S standing left t l o → Enters S standing left t l o' → o ≡ o'
 
+-- A frame at work has one outcome, whatever its successors' pairs are.
+abbrev pub FramesAgree : Storing → Type 0
+FramesAgree S =
+    (standing : S.Standing) (left : ℕ) (t : Tree) (l : Thresholds) (ps : List Pair) (o o' : Outcome S.Standing) →
+    Works S standing left t l ps o → Works S standing left t l ps o' → o ≡ o'
+
 abbrev pub TrialsAgree : Storing → Type 0
 TrialsAgree S =
     (standing : S.Standing) (t : Tree) (b : ℕ) (a a' : Answer) (standing' standing'' : S.Standing) →
@@ -131,6 +137,10 @@ TrialsAgree S =
 -- Every run ends.
 abbrev pub RunsEnd : Storing → Type 0
 RunsEnd S = (standing : S.Standing) (left : ℕ) (t : Tree) (l : Thresholds) → (o : Outcome S.Standing) × Enters S standing left t l o
+
+-- Every frame at work ends, whatever its successors' pairs are.
+abbrev pub FramesEnd : Storing → Type 0
+FramesEnd S = (standing : S.Standing) (left : ℕ) (t : Tree) (l : Thresholds) (ps : List Pair) → (o : Outcome S.Standing) × Works S standing left t l ps o
 
 -- The pair that a run gives is decided.
 abbrev pub RunsDecide : Storing → Type 0

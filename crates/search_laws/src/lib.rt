@@ -1,6 +1,6 @@
 #![tactic(auto)]
 
-ghost use Rattle.search_laws.specs.Claims.{OnePair, FramesAreActive, GivenReaches, RunsAreRight, TrialsAreRight, FramesCount, ExpansionsCount, ThresholdsTell, TakesAnother, SpentIsMeant, RunsLast, VerdictsLast, RunsAgree, TrialsAgree, RunsEnd, TrialsEnd, RunsDecide};
+ghost use Rattle.search_laws.specs.Claims.{OnePair, FramesAreActive, GivenReaches, RunsAreRight, TrialsAreRight, FramesCount, ExpansionsCount, ThresholdsTell, TakesAnother, SpentIsMeant, RunsLast, VerdictsLast, RunsAgree, FramesAgree, TrialsAgree, RunsEnd, FramesEnd, TrialsEnd, RunsDecide};
 ghost use Rattle.search_laws.specs.Examples.{LawsKept, ChainTrials, NewestTrials, FiveTrials, WideTrials};
 ghost use Rattle.search_laws.specs.Words.{VerdictTells};
 
@@ -31,16 +31,18 @@ pub fn spent_is_meant<T: Table>()
     ensures { SpentIsMeant T.storing }
 {}
 
-/// A frame has one pair of its own, a run has one outcome, and a trial one answer and one standing of the table after it.
+/// A frame has one pair of its own, a run and a frame at work have one outcome, and a trial one answer and one standing of the table after it.
 pub fn trials_agree<T: Table>()
     ensures pairs { OnePair }
     ensures runs { RunsAgree T.storing }
+    ensures frames { FramesAgree T.storing }
     ensures trials { TrialsAgree T.storing }
 {}
 
-/// Every run and every trial ends.
+/// Every run, every frame at work and every trial ends.
 pub fn trials_end<T: Table>()
     ensures runs { RunsEnd T.storing }
+    ensures frames { FramesEnd T.storing }
     ensures trials { TrialsEnd T.storing }
 {}
 

@@ -18,10 +18,18 @@ enum Seat<G: Picture> {
 }
 
 impl<G: Picture> Seat<G> {
+    fn none() -> Seat<G> {
+        Seat::None(Tester::new(NoTable))
+    }
+
+    fn newest() -> Seat<G> {
+        Seat::Newest(Tester::new(Newest::new()))
+    }
+
     fn new(policy: Policy) -> Seat<G> {
         match policy {
-            Policy::None => Seat::None(Tester::new(NoTable)),
-            Policy::Newest => Seat::Newest(Tester::new(Newest::new())),
+            Policy::None => Seat::none(),
+            Policy::Newest => Seat::newest(),
         }
     }
 
@@ -45,11 +53,20 @@ enum Made {
     Othello(Seat<Othello>),
 }
 
+// A function pays at entry for the size of its locals, so each tester is made in a function of its own.
 impl Made {
+    fn chess(policy: Policy) -> Made {
+        Made::Chess(Seat::new(policy))
+    }
+
+    fn othello(policy: Policy) -> Made {
+        Made::Othello(Seat::new(policy))
+    }
+
     fn new(kind: Kind, policy: Policy) -> Made {
         match kind {
-            Kind::Chess => Made::Chess(Seat::new(policy)),
-            Kind::Othello => Made::Othello(Seat::new(policy)),
+            Kind::Chess => Made::chess(policy),
+            Kind::Othello => Made::othello(policy),
         }
     }
 }
@@ -70,13 +87,17 @@ impl Hall {
         })
     }
 
+    /// Makes a tester in place of the one before.
+    // Not in `answer`: a function pays at entry for the size of its locals, and a tester that is made lies in one.
+    fn make(&mut self, page: &mut Vec<u8>, kind: Kind, policy: Policy) -> io::Result<()> {
+        self.made = Made::new(kind, policy);
+        writeln!(page, "made {kind} {policy}")
+    }
+
     /// Answers a command on the page.
     pub fn answer(&mut self, page: &mut Vec<u8>, command: Command<'_>) -> io::Result<()> {
         match command {
-            Command::Make { kind, policy } => {
-                self.made = Made::new(kind, policy);
-                writeln!(page, "made {kind} {policy}")
-            }
+            Command::Make { kind, policy } => self.make(page, kind, policy),
             Command::Ask(question) => match &mut self.made {
                 Made::Chess(seat) => seat.answer(&mut self.desk, page, question),
                 Made::Othello(seat) => seat.answer(&mut self.desk, page, question),

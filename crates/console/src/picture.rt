@@ -4,7 +4,6 @@ use board::Square;
 use chess::Chess;
 use game::Game;
 use othello::Othello;
-use std::fmt::Display;
 use std::io;
 use std::io::Write;
 
@@ -16,23 +15,19 @@ pub trait Picture: Game {
 
 const FILES: &[u8] = b"  a b c d e f g h\n";
 
-/// A row of the board, counted from 0: its name, and a blank and a mark for each of its squares, which is what stands there or a dot.
-fn row<M: Display + Drop, F: Fn(Square) -> Option<M>>(
-    page: &mut Vec<u8>,
-    row: u8,
-    standing: F,
-) -> io::Result<()>
+/// A row of the board, counted from 0: its name, and a blank and a mark for each of its squares, which is the letter of what stands there or a
+/// dot.
+fn row<F: Fn(Square) -> Option<char>>(page: &mut Vec<u8>, row: u8, standing: F) -> io::Result<()>
     requires low { row < 8 }
     requires callable { F.IsAlwaysCallable standing }
 {
-    write!(page, "{}", row + 1)?;
-    for square in Square::all().filter(|square| square.row() == row) {
-        match standing(square) {
-            Some(man) => write!(page, " {man}")?,
-            None => write!(page, " .")?,
-        }
+    page.write_all(&[b'1' + row])?;
+    for square in (0..8).filter_map(|file| Square::at(file, row)) {
+        let mark = standing(square).unwrap_or('.');
+        page.write_all(b" ")?;
+        page.write_all(mark.encode_utf8(&mut [0; 4]).as_bytes())?;
     }
-    writeln!(page)
+    page.write_all(b"\n")
 }
 
 impl Picture for Othello {
@@ -43,7 +38,9 @@ impl Picture for Othello {
         page.write_all(FILES)?;
         // a row is its number: there is nothing else to go over
         for number in 0..8 {
-            row(page, number, |square| diagram.disc(square))?;
+            row(page, number, |square| {
+                diagram.disc(square).map(|disc| disc.letter())
+            })?;
         }
         writeln!(
             page,
@@ -63,7 +60,7 @@ impl Picture for Chess {
         // a row is its number: there is nothing else to go over
         for number in (0..8).rev() {
             row(page, number, |square| {
-                diagram.board[square.number() as usize]
+                diagram.board[square.number() as usize].map(|man| man.letter())
             })?;
         }
         page.write_all(FILES)?;

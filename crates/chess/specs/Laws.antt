@@ -183,7 +183,7 @@ own_side : (a : Side) → same_side a a ≡ true
 own_side White = refl
 own_side Black = refl
 
-attacking : (n : ℕ) (d : Diagram) → state (tree d.mover n d) ≢ Defender
+pub attacking : (n : ℕ) (d : Diagram) → state (tree d.mover n d) ≢ Defender
 unfolding state_of
 attacking n d e =
     not_defender (no_move (legal_moves d)) (is_in_check d) n

@@ -115,7 +115,7 @@ module _ {S A : Type 0} (f : Form S A) (Fit : S → Type 0) (l : Lively f Fit) w
       (sym (finished f 0 f.first t u e ∙ ap (λ o. given o (Err (0 + length t)) (λ a. Ok a)) z), (u, (e, z)))
 
 -- what a text says is read
-reading_says : {S A : Type 0} (f : Form S A) (t : List ℕ) (a : A) → Says f t a → reading f t ≡ Ok a
+pub reading_says : {S A : Type 0} (f : Form S A) (t : List ℕ) (a : A) → Says f t a → reading f t ≡ Ok a
 reading_says f t a w =
     finished f 0 f.first t w.0 w.1.0 ∙ ap (λ o. given o (Err (0 + length t)) (λ b. Ok b)) w.1.1
 
@@ -138,7 +138,7 @@ says_reading {S} {A} f t a e = from 0 f.first t e
         as (λ o. given o (Err n) (λ v. reading_from f (suc n) v t) ≡ Ok a → (u : S) × ((given o None (λ v. led f v t) ≡ Some u) × (f.content u ≡ Some a)))
         [ None ↦ failed n | Some v ↦ from (suc n) v t ] k
 
-one_place : (P : List ℕ → Type 0) (t : List ℕ) (m n : ℕ) → Departs P t m → Departs P t n → m ≡ n
+pub one_place : (P : List ℕ → Type 0) (t : List ℕ) (m n : ℕ) → Departs P t m → Departs P t n → m ≡ n
 one_place P t m n d e =
     elim (cases_order m n) [
       | inl z ↦ z

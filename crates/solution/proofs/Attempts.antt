@@ -32,7 +32,7 @@ few {depth = depth} {width = width} rules t p =
     (λ l. let h = All-get_or (λ u. rank u < rank t) (next t) 0 nowhere l (rules.falls t p) in omega arith)
 
 -- a trial costs no more than its budget
-affordable : {S : Storing} {standing : S.Standing} {t : Tree} {b : ℕ} {a : Answer} {standing' : S.Standing} → Trial S standing t b a standing' → cost a ≤ b
+pub affordable : {S : Storing} {standing : S.Standing} {t : Tree} {b : ℕ} {a : Answer} {standing' : S.Standing} → Trial S standing t b a standing' → cost a ≤ b
 affordable (at_once k v) = omega arith
 affordable {b = b} (by_the_run k r d v) = omega arith
 affordable {b = b} (by_the_search k r n v) = omega arith

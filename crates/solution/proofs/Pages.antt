@@ -24,7 +24,7 @@ duals-join : (a b : List Line) → duals (a ++ b) ≡ duals a + duals b
 duals-join [] b = omega arith
 duals-join (l ∷ a) b = let h = duals-join a b in omega arith
 
-take_past : {A : Type 0} (a b : List A) (n : ℕ) → length a ≤ n → take n (a ++ b) ≡ a ++ take (n - length a) b
+pub take_past : {A : Type 0} (a b : List A) (n : ℕ) → length a ≤ n → take n (a ++ b) ≡ a ++ take (n - length a) b
 take_past [] b n l = ap (λ (m : ℕ). take m b) (let e : n ≡ n - 0 = omega arith in e)
 take_past (x ∷ a) b zero l = absurd (omega arith)
 take_past {A = A} (x ∷ a) b (suc n) l =

@@ -23,7 +23,7 @@ abbrev pub facing : Side → (n k : ℕ) → T (well n k) → Pair
 facing Attacker n k f = record { proof = n; disproof = k; formed = f }
 facing Defender n k f = record { proof = k; disproof = n; formed = exchanged n k f }
 
-numbers_formed : (s : Side) (p : Pair) → T (well (own s p) (against s p))
+pub numbers_formed : (s : Side) (p : Pair) → T (well (own s p) (against s p))
 numbers_formed Attacker p = p.formed
 numbers_formed Defender p = exchanged p.proof p.disproof p.formed
 
